@@ -1,0 +1,4 @@
+pub mod States
+pub mod Ranges
+pub mod Reports
+pub mod Parts
