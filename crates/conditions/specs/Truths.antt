@@ -1,5 +1,9 @@
 -- Three-valued truth, as in SQL.
-use mathlib.Core.Bool.{Bool, true, false}
+use mathlib.Core.Bool.{Bool, true, false, cond, _&&_}
+use Prim.Native.Nat.{ℕ}
+use lib.Dec.{leb}
+use Rattle.std.specs.declared.option.Option.{Option}
+use Rattle.std.specs.declared.option.Option.the-variants.{Some, None}
 use Rattle.conditions.specs.declared.truth.Truth.{Truth}
 use Rattle.conditions.specs.declared.truth.Truth.the-variants.{True, False, Unknown}
 
@@ -30,3 +34,8 @@ abbrev pub isTrue : Truth → Bool
 isTrue True = true
 isTrue False = false
 isTrue Unknown = false
+
+-- a value lies from low to high, both included; of an unknown value that is unknown
+abbrev pub within : Option ℕ → ℕ → ℕ → Truth
+within None low high = Unknown
+within (Some x) low high = cond (leb low x && leb x high) True False

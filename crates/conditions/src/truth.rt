@@ -1,6 +1,6 @@
 //! Three-valued truth, as in SQL.
 ghost use mathlib.Core.Path.{_≡_};
-ghost use Rattle.conditions.specs.Truths.{conj, disj, neg, isTrue};
+ghost use Rattle.conditions.specs.Truths.{conj, disj, neg, isTrue, within};
 
 /// What a condition says of a state.
 #[derive(Clone, Copy, Debug, PartialEq, Eq)]
@@ -51,6 +51,17 @@ impl Truth {
         match self {
             Truth::True => true,
             Truth::False | Truth::Unknown => false,
+        }
+    }
+
+    /// Whether a value lies from `low` to `high`, both included; unknown of an unknown value.
+    pub fn within(value: Option<u16>, low: u16, high: u16) -> Truth
+        ensures { λ r. ⌜ r ≡ within value low high ⌝ }
+    {
+        match value {
+            None => Truth::Unknown,
+            Some(x) if low <= x && x <= high => Truth::True,
+            Some(_) => Truth::False,
         }
     }
 }

@@ -1,0 +1,6 @@
+pub mod Items
+pub mod Trees
+pub mod Stacks
+pub mod Books
+pub mod BookLaws
+pub mod Windows
