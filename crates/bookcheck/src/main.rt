@@ -1,0 +1,27 @@
+//! bookcheck FILE: prints how many conditions a book has, and for each its truth through a day.
+use files::read_front;
+use std::env;
+use std::error::AnyError;
+use timetables::print_book;
+
+fn run(rt: &LibcRuntime) -> Result<(), AnyError> {
+    let mut args = env::args(rt)?;
+    let _program = args.next();
+    let Some(path) = args.next() else {
+        return Err("usage: bookcheck FILE".into());
+    };
+    let bytes = match read_front(rt, path.as_str()) {
+        Ok(bytes) => bytes,
+        Err(why) => {
+            eprintln!(rt, "bookcheck: cannot read {path}")?;
+            return Err(why.into());
+        }
+    };
+    let text = print_book(rt.alloc(), bytes.as_slice())?;
+    rt.print(text.as_str())?;
+    Ok(())
+}
+
+fn main(rt: LibcRuntime) -> Result<(), AnyError> {
+    rt.report(run(&rt))
+}
