@@ -13,8 +13,8 @@ fn run(rt: &LibcRuntime) -> Result<(), AnyError> {
     let bytes = match read_front(rt, path.as_str()) {
         Ok(bytes) => bytes,
         Err(why) => {
-            eprintln!(rt, "bookcheck: cannot read {path}")?;
-            return Err(why.into());
+            let message = format!(rt.alloc(), "cannot read {path}: {why}")?;
+            return Err(message.into());
         }
     };
     let text = print_book(rt.alloc(), bytes.as_slice())?;
@@ -23,5 +23,11 @@ fn run(rt: &LibcRuntime) -> Result<(), AnyError> {
 }
 
 fn main(rt: LibcRuntime) -> Result<(), AnyError> {
-    rt.report(run(&rt))
+    match run(&rt) {
+        Ok(()) => Ok(()),
+        Err(why) => {
+            eprintln!(rt, "bookcheck: {why}")?;
+            Err(why)
+        }
+    }
 }

@@ -155,9 +155,12 @@ pub checked-formed : (bs : List ℕ) (k : ℕ) → checked bs ≡ Ok k → Forme
 checked-formed bs k e = from-formed (length bs) bs 0 k (formed-none bs) e
 
 -- an ill-formed book has no conditions of its own
-pub opened-formed : (bs : List ℕ) (r : Result ℕ Fault) → checked bs ≡ r → Formed bs (valueOr r 0)
+opened-formed : (bs : List ℕ) (r : Result ℕ Fault) → checked bs ≡ r → Formed bs (valueOr r 0)
 opened-formed bs (Ok k) e = checked-formed bs k e
 opened-formed bs (Err p) e = formed-none bs
+
+pub opened : (bs : List ℕ) {count : ℕ} → count ≡ valueOr (checked bs) 0 → Formed bs count
+opened bs e = subst (Formed bs) (sym e) (opened-formed bs (checked bs) refl)
 
 pub good-head : (bs : List ℕ) (m k p : ℕ) → Formed bs m → k < m → p ≡ start bs k → p + 3 ≤ length bs
 good-head bs m k p formed h e = omega (arith, good-room bs (start bs k) (formed .1 k h), e)

@@ -3,7 +3,7 @@ ghost use mathlib.Core.Path.{_≡_};
 ghost use mathlib.Core.Bool.{true};
 ghost use mathlib.Core.List.{[], _∷_};
 ghost use Prim.Native.Nat.{_+_, _-_, _≤_};
-ghost use lib.ListN.{length, drop};
+ghost use lib.ListN.{length, take, drop};
 ghost use Rattle.std.specs.Options.{isSome, mapped};
 ghost use Rattle.std.specs.Results.{valueOr};
 ghost use Rattle.std.specs.Slices.{found};
@@ -28,6 +28,22 @@ fn stated_len(bytes: &[u8], at: usize) -> usize
     wide(bytes[at + 1], bytes[at + 2]) as usize
 }
 
+/// How many conditions a book opens with; an ill-formed one has none of its own.
+fn own_count(bytes: &[u8]) -> u16
+    ensures { λ r. ⌜ r ≡ valueOr (checked (now (bytes .entry))) 0 ⌝ }
+{
+    check(bytes).unwrap_or(0)
+}
+
+/// The value of the field at `at`, a part of the book itself.
+fn value_at<'a>(bytes: &'a [u8], at: usize, size: usize) -> &'a [u8]
+    requires { ⌜ at + 3 + size ≤ length (now bytes) ⌝ }
+    ensures value { λ r. ⌜ now r ≡ take size (drop (at + 3) (now (bytes .entry))) ⌝ }
+    ensures place { λ r. ⌜ r .ptr ≡ (bytes .entry .ptr .0, bytes .entry .ptr .1 + (at + 3)) ⌝ }
+{
+    part(bytes, at + 3, size)
+}
+
 /// Where each of the first `count` fields begins.
 fn starts_of(bytes: &[u8], count: u16) -> [u16; 1022]
     requires { ⌜ Formed (now bytes) count ⌝ }
@@ -49,7 +65,7 @@ impl<'a> Book<'a> {
         ensures count { λ r. ⌜ r .count ≡ valueOr (checked (now (bytes .entry))) 0 ⌝ }
         ensures meant { λ _. ⌜ Meant ⌝ }
     {
-        let count = check(bytes).unwrap_or(0);
+        let count = own_count(bytes);
         let starts = starts_of(bytes, count);
         Book {
             bytes,
@@ -69,7 +85,7 @@ impl<'a> Book<'a> {
         }
         let at = self.starts[n as usize - 2] as usize;
         let size = stated_len(self.bytes, at);
-        Some(part(self.bytes, at + 3, size))
+        Some(value_at(self.bytes, at, size))
     }
 }
 

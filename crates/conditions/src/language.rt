@@ -28,7 +28,14 @@ pub trait Language {
         ensures { λ r. ⌜ r ≡ says (now (self .entry)) n (now (state .entry)) ⌝ };
 }
 
-/// Whether condition `n` is true of the state: unknown is not true. What is true of a state stays
+/// Whether condition `n` is true of the state: unknown is not true.
+fn is_true_of<L: Language>(language: &L, n: u16, state: &State) -> bool
+    ensures { λ r. ⌜ r ≡ isTrue (says (now (language .entry)) n (now (state .entry))) ⌝ }
+{
+    language.truth(n, state).is_true()
+}
+
+/// Whether condition `n` is true of the state. What is true of a state stays
 /// true of every state that is told more, and so what is true of a kept part of a state is true
 /// of the whole state, in every lawful language.
 pub fn holds<L: Language>(language: &L, n: u16, state: &State) -> bool
@@ -36,5 +43,5 @@ pub fn holds<L: Language>(language: &L, n: u16, state: &State) -> bool
     ensures stays { λ r. ⌜ ((t : State) → r ≡ true → InRange t → ToldMore (now (state .entry)) t → says (now (language .entry)) n t ≡ True) ⌝ }
     ensures whole { λ _. ⌜ Kept-then-whole ⌝ }
 {
-    language.truth(n, state).is_true()
+    is_true_of(language, n, state)
 }

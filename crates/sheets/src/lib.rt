@@ -1,4 +1,4 @@
 //! The sheet: conditions as rows of hours, days, groups, panel and a barred receiver.
 pub mod row;
-mod rows;
+pub mod rows;
 pub mod sheet;

@@ -17,8 +17,8 @@ stated-len-size-requires c κs =
     let k = c .args .n - 2 in
     good-head _ (b .count) k _ (b .formed) (omega arith) (b .placed k (omega arith))
 
-pub part-requires : need.part-requires
-part-requires c κs =
+pub value-at-requires : need.value-at-requires
+value-at-requires c κs =
     let b = c .args .self .now in
     let k = c .args .n - 2 in
     good-part _ (b .count) k _ _ (b .formed) (omega arith) (b .placed k (omega arith)) (c .stated-len-size .ensures)
@@ -29,9 +29,9 @@ returns c =
     let n = c .args .n in
     let inside : n - 2 < b .count = omega arith in
     let here : getD (b .starts) (n - 2) 0 ≡ start (b .bytes .now) (n - 2) = b .placed (n - 2) inside in
-    let is = c .part .ensures .value ∙ part-body (b .bytes .now) (n - 2) _ _ here (c .stated-len-size .ensures) in
+    let is = c .value-at .ensures .value ∙ part-body (b .bytes .now) (n - 2) _ _ here (c .stated-len-size .ensures) in
     record {
       value = ap (λ l. Some l) is ∙ sym (cond-true _ _ _ (and-from _ _ (le-leb 2 n (omega arith)) (lt-ltb n (b .count + 2) (omega arith))));
-      place = c .part .ensures .place ∙ ap (λ p. (b .bytes .ptr .0, b .bytes .ptr .1 + (p + 3))) here;
+      place = c .value-at .ensures .place ∙ ap (λ p. (b .bytes .ptr .0, b .bytes .ptr .1 + (p + 3))) here;
       formed = ap (λ l. isSome (tree l)) is ∙ body-spelled (b .bytes .now) (b .count) (n - 2) (b .formed) inside;
     }
