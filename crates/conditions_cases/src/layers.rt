@@ -1,9 +1,12 @@
 //! Layers over languages, piled and lent.
 use crate::emergency::Emergency;
 use crate::emergency::EmergencyLanguage;
+use crate::samples::X;
 use crate::samples::at;
+use crate::samples::expected;
 use crate::samples::long_book;
-use crate::samples::nothing;
+use crate::samples::row;
+use crate::samples::told;
 use books::book::Book;
 use books::open::BookLanguage;
 use books::open::office_hours;
@@ -17,24 +20,25 @@ use conditions::lent::LentLanguage;
 use conditions::truth::Truth;
 use conditions::truth::TruthDebug;
 use conditions::truth::TruthPartialEq;
-use sheets::row::Row;
 use sheets::rows::SheetLanguage;
 use sheets::sheet::Sheet;
 use states::report::Report;
+use states::state::State;
 use std::test::*;
 
 /// A sheet of one row: before noon.
 fn mornings() -> Sheet {
     let mut sheet = Sheet::new();
-    let _ = sheet.add(Row {
-        from: 0,
-        to: 719,
-        days: 127,
-        groups: 0,
-        path: 0,
-        barred: 0,
-    });
+    let _ = sheet.add(row(0, 719, 127, 0, 0, 0));
     sheet
+}
+
+/// Compares the first eight truths with a table: 0 unknown, 1 false, 2 true.
+fn check_truths<L: Language>(language: &L, state: &State, table: &[u16; 8]) -> Result<(), Fail> {
+    for n in 0..8u16 {
+        check_eq(language.truth(n, state), expected(table[n as usize]))?;
+    }
+    Ok(())
 }
 
 #[test]
@@ -44,15 +48,12 @@ fn distrust_makes_what_it_names_unknown() -> Result<(), Fail> {
         below: Book::open(&hours),
         hidden: 0b100,
     };
-    check_eq(doubted.count(), 3)?;
-    check_eq(doubted.truth(2, &at(600)), Truth::Unknown)?;
-    check_eq(doubted.truth(0, &at(600)), Truth::True)?;
-    check_eq(doubted.truth(1, &at(600)), Truth::False)?;
+    check_truths(&doubted, &at(600), &[2, 1, 0, 0, 0, 0, 0, 0])?;
     let other = Distrust {
         below: Book::open(&hours),
         hidden: 0b1111_1011,
     };
-    check_eq(other.truth(2, &at(600)), Truth::True)
+    check_truths(&other, &at(600), &[2, 1, 2, 0, 0, 0, 0, 0])
 }
 
 #[test]
@@ -63,8 +64,14 @@ fn distrust_cannot_hide_the_caller_or_the_receiver() -> Result<(), Fail> {
         below: Book::open(&people),
         hidden: 0xFF,
     };
-    check_eq(doubted.truth(2, &nothing().state(1, Some(2))), Truth::True)?;
-    check_eq(doubted.truth(2, &nothing().state(1, None)), Truth::Unknown)
+    check_eq(
+        doubted.truth(2, &told(X, X, X, X).state(1, Some(2))),
+        Truth::True,
+    )?;
+    check_eq(
+        doubted.truth(2, &told(X, X, X, X).state(1, None)),
+        Truth::Unknown,
+    )
 }
 
 #[test]
@@ -75,12 +82,8 @@ fn joined_numbers_stand_behind_the_first() -> Result<(), Fail> {
         second: mornings(),
     };
     check_eq(both.count(), 6)?;
-    check_eq(both.truth(2, &at(800)), Truth::True)?;
-    check_eq(both.truth(3, &at(800)), Truth::True)?;
-    check_eq(both.truth(4, &at(800)), Truth::False)?;
-    check_eq(both.truth(5, &at(800)), Truth::False)?;
-    check_eq(both.truth(5, &at(700)), Truth::True)?;
-    check_eq(both.truth(6, &at(700)), Truth::Unknown)
+    check_truths(&both, &at(800), &[2, 1, 2, 2, 1, 1, 0, 0])?;
+    check_truths(&both, &at(100), &[2, 1, 1, 2, 1, 2, 0, 0])
 }
 
 #[test]
@@ -103,32 +106,24 @@ fn a_pile_three_deep_of_lent_languages() -> Result<(), Fail> {
     let book = Book::open(&hours);
     let sheet = mornings();
     let under = Joined {
-        first: &book,
+        first: Emergency,
         second: &sheet,
     };
     let doubted = Distrust {
         below: &under,
-        hidden: 0b1000_0000,
+        hidden: 0b100,
     };
     let pile = Joined {
         first: &doubted,
-        second: Joined {
-            first: Emergency,
-            second: &book,
-        },
+        second: &book,
     };
-    check_eq(pile.count(), 12)?;
     let alarm = Report {
-        time: Some(700),
         status: Some(1),
-        ..nothing()
+        ..told(700, X, X, X)
     };
-    let state = alarm.state(1, None);
-    check_eq(pile.truth(2, &state), Truth::True)?;
-    check_eq(pile.truth(5, &state), Truth::True)?;
-    check_eq(pile.truth(8, &state), Truth::True)?;
-    check_eq(pile.truth(11, &state), Truth::True)?;
-    check_eq(pile.truth(12, &state), Truth::Unknown)?;
-    check(holds(&pile, 8, &state))?;
-    check(!holds(&pile, 8, &at(700)))
+    check_eq(pile.count(), 9)?;
+    check_truths(&pile, &alarm.state(1, None), &[2, 1, 2, 2, 1, 0, 2, 1])?;
+    check_eq(pile.truth(8, &alarm.state(1, None)), Truth::True)?;
+    check(holds(&pile, 8, &at(700)))?;
+    check(!holds(&pile, 5, &at(700)))
 }

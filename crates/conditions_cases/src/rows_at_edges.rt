@@ -1,321 +1,106 @@
 //! Rows of a sheet, at each edge of each part.
-use crate::samples::at;
-use crate::samples::nothing;
+use crate::samples::X;
+use crate::samples::expected;
+use crate::samples::row;
+use crate::samples::told;
 use conditions::language::Language;
-use conditions::truth::Truth;
 use conditions::truth::TruthDebug;
 use conditions::truth::TruthPartialEq;
-use faults::Fault;
 use faults::FaultDebug;
 use faults::FaultPartialEq;
 use faults::Refusal;
-use sheets::row::Row;
 use sheets::rows::SheetLanguage;
 use sheets::sheet::Sheet;
-use states::report::Report;
 use std::test::*;
 
-/// The row that asks nothing.
-fn open_row() -> Row {
-    Row {
-        from: 0,
-        to: 1439,
-        days: 127,
-        groups: 0,
-        path: 0,
-        barred: 0,
-    }
-}
+// Each case: the six parts, and the part that is refused, or 100 and the row's number.
+static ADDED: [[u16; 7]; 9] = [
+    [1439, 1439, 127, 0, 0, 0, 102],
+    [0, 0, 0, 65535, 1, 200, 103],
+    [1440, 0, 127, 0, 0, 0, 1],
+    [0, 1440, 127, 0, 0, 0, 2],
+    [0, 0, 128, 0, 0, 0, 3],
+    [0, 0, 127, 0, 2, 0, 5],
+    [0, 0, 127, 0, 0, 201, 6],
+    [0, 2000, 255, 0, 9, 255, 2],
+    [0, 1439, 127, 0, 0, 0, 104],
+];
 
-fn refused(place: usize) -> Result<u16, Fault> {
-    Err(Refusal::ConditionsIllFormed.at(place))
-}
-
-/// What the sheet of one row says.
-fn says(row: Row, told: &Report, receiver: Option<u8>) -> Truth {
-    let mut sheet = Sheet::new();
-    let _ = sheet.add(row);
-    sheet.truth(2, &told.state(1, receiver))
-}
+// Each case: the six parts; TIME, DAY, GROUPS, PATH and the receiver; and what is said: 0 unknown,
+// 1 false, 2 true.
+static SAYS: [[u16; 12]; 24] = [
+    [0, 1439, 127, 0, 0, 0, X, X, X, X, X, 2],
+    [480, 1080, 127, 0, 0, 0, 479, X, X, X, X, 1],
+    [480, 1080, 127, 0, 0, 0, 480, X, X, X, X, 2],
+    [480, 1080, 127, 0, 0, 0, 1080, X, X, X, X, 2],
+    [480, 1080, 127, 0, 0, 0, 1081, X, X, X, X, 1],
+    [480, 1080, 127, 0, 0, 0, X, X, X, X, X, 0],
+    [1, 1439, 127, 0, 0, 0, X, X, X, X, X, 0],
+    [1000, 10, 127, 0, 0, 0, 1005, X, X, X, X, 1],
+    [0, 1439, 31, 0, 0, 0, X, 4, X, X, X, 2],
+    [0, 1439, 31, 0, 0, 0, X, 5, X, X, X, 1],
+    [0, 1439, 31, 0, 0, 0, X, X, X, X, X, 0],
+    [0, 1439, 0, 0, 0, 0, X, 0, X, X, X, 1],
+    [0, 1439, 127, 5, 0, 0, X, X, 7, X, X, 2],
+    [0, 1439, 127, 5, 0, 0, X, X, 3, X, X, 1],
+    [0, 1439, 127, 5, 0, 0, X, X, X, X, X, 0],
+    [0, 1439, 127, 32768, 0, 0, X, X, 32768, X, X, 2],
+    [0, 1439, 127, 0, 1, 0, X, X, X, 1, X, 2],
+    [0, 1439, 127, 0, 1, 0, X, X, X, 0, X, 1],
+    [0, 1439, 127, 0, 1, 0, X, X, X, X, X, 0],
+    [0, 1439, 127, 0, 0, 9, X, X, X, X, 9, 1],
+    [0, 1439, 127, 0, 0, 9, X, X, X, X, 8, 2],
+    [0, 1439, 127, 0, 0, 9, X, X, X, X, X, 0],
+    [480, 1080, 127, 0, 1, 0, 0, X, X, X, X, 1],
+    [480, 1080, 127, 0, 1, 0, 600, X, X, X, X, 0],
+];
 
 #[test]
 fn each_part_at_its_greatest_value_and_past_it() -> Result<(), Fail> {
-    let good = [
-        Row {
-            from: 1439,
-            ..open_row()
-        },
-        Row {
-            to: 0,
-            ..open_row()
-        },
-        Row {
-            days: 0,
-            ..open_row()
-        },
-        Row {
-            groups: 65535,
-            ..open_row()
-        },
-        Row {
-            path: 1,
-            ..open_row()
-        },
-        Row {
-            barred: 200,
-            ..open_row()
-        },
-    ];
     let mut sheet = Sheet::new();
-    let mut number = 2u16;
-    for row in good {
-        check_eq(sheet.add(row), Ok(number))?;
-        number = number.saturating_add(1);
+    for case in ADDED {
+        let answer = sheet.add(row(case[0], case[1], case[2], case[3], case[4], case[5]));
+        if case[6] < 100 {
+            check_eq(
+                answer,
+                Err(Refusal::ConditionsIllFormed.at(case[6] as usize)),
+            )?;
+        } else {
+            check_eq(answer, Ok(case[6] - 100))?;
+        }
     }
-    check_eq(
-        sheet.add(Row {
-            from: 1440,
-            ..open_row()
-        }),
-        refused(1),
-    )?;
-    check_eq(
-        sheet.add(Row {
-            to: 1440,
-            ..open_row()
-        }),
-        refused(2),
-    )?;
-    check_eq(
-        sheet.add(Row {
-            days: 128,
-            ..open_row()
-        }),
-        refused(3),
-    )?;
-    check_eq(
-        sheet.add(Row {
-            path: 2,
-            ..open_row()
-        }),
-        refused(5),
-    )?;
-    check_eq(
-        sheet.add(Row {
-            barred: 201,
-            ..open_row()
-        }),
-        refused(6),
-    )?;
-    check_eq(
-        sheet.add(Row {
-            to: 2000,
-            days: 255,
-            ..open_row()
-        }),
-        refused(2),
-    )?;
-    check_eq(sheet.count(), 8)
+    check_eq(sheet.count(), 5)
 }
 
 #[test]
 fn a_full_sheet_is_said_before_a_bad_part() -> Result<(), Fail> {
     let mut sheet = Sheet::new();
     for number in 2..66u16 {
-        check_eq(sheet.add(open_row()), Ok(number))?;
+        check_eq(sheet.add(row(0, 1439, 127, 0, 0, 0)), Ok(number))?;
     }
-    check_eq(sheet.add(open_row()), refused(0))?;
     check_eq(
-        sheet.add(Row {
-            from: 1440,
-            ..open_row()
-        }),
-        refused(0),
+        sheet.add(row(0, 1439, 127, 0, 0, 0)),
+        Err(Refusal::ConditionsIllFormed.at(0)),
     )?;
-    check_eq(sheet.count(), 66)?;
-    check_eq(sheet.truth(65, &at(0)), Truth::True)?;
-    check_eq(sheet.truth(66, &at(0)), Truth::Unknown)
+    check_eq(
+        sheet.add(row(1440, 1439, 127, 0, 0, 0)),
+        Err(Refusal::ConditionsIllFormed.at(0)),
+    )?;
+    check_eq(sheet.count(), 66)
 }
 
 #[test]
-fn a_row_that_asks_nothing_is_true_of_a_state_that_tells_nothing() -> Result<(), Fail> {
-    check_eq(says(open_row(), &nothing(), None), Truth::True)
-}
-
-#[test]
-fn hours_and_days() -> Result<(), Fail> {
-    let hours = Row {
-        from: 480,
-        to: 1080,
-        ..open_row()
-    };
-    check_eq(
-        says(
-            hours,
-            &Report {
-                time: Some(479),
-                ..nothing()
-            },
-            None,
-        ),
-        Truth::False,
-    )?;
-    check_eq(
-        says(
-            hours,
-            &Report {
-                time: Some(480),
-                ..nothing()
-            },
-            None,
-        ),
-        Truth::True,
-    )?;
-    check_eq(
-        says(
-            hours,
-            &Report {
-                time: Some(1080),
-                ..nothing()
-            },
-            None,
-        ),
-        Truth::True,
-    )?;
-    check_eq(
-        says(
-            hours,
-            &Report {
-                time: Some(1081),
-                ..nothing()
-            },
-            None,
-        ),
-        Truth::False,
-    )?;
-    check_eq(says(hours, &nothing(), None), Truth::Unknown)?;
-    let week = Row {
-        days: 0b0011111,
-        ..open_row()
-    };
-    check_eq(
-        says(
-            week,
-            &Report {
-                day: Some(4),
-                ..nothing()
-            },
-            None,
-        ),
-        Truth::True,
-    )?;
-    check_eq(
-        says(
-            week,
-            &Report {
-                day: Some(5),
-                ..nothing()
-            },
-            None,
-        ),
-        Truth::False,
-    )?;
-    check_eq(says(week, &nothing(), None), Truth::Unknown)
-}
-
-#[test]
-fn groups_panel_and_barred_receiver() -> Result<(), Fail> {
-    let two = Row {
-        groups: 0b101,
-        ..open_row()
-    };
-    check_eq(
-        says(
-            two,
-            &Report {
-                groups: Some(0b111),
-                ..nothing()
-            },
-            None,
-        ),
-        Truth::True,
-    )?;
-    check_eq(
-        says(
-            two,
-            &Report {
-                groups: Some(0b011),
-                ..nothing()
-            },
-            None,
-        ),
-        Truth::False,
-    )?;
-    check_eq(says(two, &nothing(), None), Truth::Unknown)?;
-    let panel = Row {
-        path: 1,
-        ..open_row()
-    };
-    check_eq(
-        says(
-            panel,
-            &Report {
-                path: Some(1),
-                ..nothing()
-            },
-            None,
-        ),
-        Truth::True,
-    )?;
-    check_eq(
-        says(
-            panel,
-            &Report {
-                path: Some(0),
-                ..nothing()
-            },
-            None,
-        ),
-        Truth::False,
-    )?;
-    check_eq(says(panel, &nothing(), None), Truth::Unknown)?;
-    let barred = Row {
-        barred: 9,
-        ..open_row()
-    };
-    check_eq(says(barred, &nothing(), Some(9)), Truth::False)?;
-    check_eq(says(barred, &nothing(), Some(8)), Truth::True)?;
-    check_eq(says(barred, &nothing(), None), Truth::Unknown)
-}
-
-#[test]
-fn false_outweighs_unknown() -> Result<(), Fail> {
-    let row = Row {
-        from: 480,
-        to: 1080,
-        path: 1,
-        ..open_row()
-    };
-    check_eq(
-        says(
-            row,
-            &Report {
-                time: Some(0),
-                ..nothing()
-            },
-            None,
-        ),
-        Truth::False,
-    )?;
-    check_eq(
-        says(
-            row,
-            &Report {
-                time: Some(600),
-                ..nothing()
-            },
-            None,
-        ),
-        Truth::Unknown,
-    )
+fn what_a_row_says() -> Result<(), Fail> {
+    for case in SAYS {
+        let mut sheet = Sheet::new();
+        let _ = sheet.add(row(case[0], case[1], case[2], case[3], case[4], case[5]));
+        let receiver = if case[10] == X {
+            None
+        } else {
+            Some((case[10] % 256) as u8)
+        };
+        let state = told(case[6], case[7], case[8], case[9]).state(1, receiver);
+        check_eq(sheet.truth(2, &state), expected(case[11]))?;
+    }
+    Ok(())
 }

@@ -1,16 +1,25 @@
-//! States and books that the cases share.
+//! What the cases share: states, rows and books made of numbers.
+use conditions::truth::Truth;
+use sheets::row::Row;
 use states::report::Report;
 use states::state::State;
 use std::alloc::AllocError;
 use std::alloc::Global;
 
-/// A report that tells nothing.
-pub fn nothing() -> Report {
+/// Stands for an unknown value in a table of cases.
+pub const X: u16 = 9999;
+
+fn known(value: u16) -> Option<u16> {
+    if value == X { None } else { Some(value) }
+}
+
+/// A report of four variables.
+pub fn told(time: u16, day: u16, groups: u16, path: u16) -> Report {
     Report {
-        time: None,
-        day: None,
-        groups: None,
-        path: None,
+        time: known(time),
+        day: known(day),
+        groups: known(groups),
+        path: known(path),
         level: None,
         status: None,
     }
@@ -18,10 +27,28 @@ pub fn nothing() -> Report {
 
 /// Person 1 calls at a minute of the day; nothing else is told.
 pub fn at(minute: u16) -> State {
-    Report {
-        time: Some(minute),
-        ..nothing()
-    }.state(1, None)
+    told(minute, X, X, X).state(1, None)
+}
+
+/// The truth of a number in a table of cases.
+pub fn expected(code: u16) -> Truth {
+    match code {
+        1 => Truth::False,
+        2 => Truth::True,
+        _ => Truth::Unknown,
+    }
+}
+
+/// A row of six numbers; the small parts have one byte.
+pub fn row(from: u16, to: u16, days: u16, groups: u16, path: u16, barred: u16) -> Row {
+    Row {
+        from,
+        to,
+        days: (days % 256) as u8,
+        groups,
+        path: (path % 256) as u8,
+        barred: (barred % 256) as u8,
+    }
 }
 
 /// Adds a field with a condition of `len` bytes: a test of group 0, denied again and again.
