@@ -21,7 +21,8 @@ use Rattle.faults.specs.declared.Fault.{Fault}
 use Rattle.faults.specs.declared.Refusal.the-variants.{ConditionsIllFormed}
 use Rattle.faults.specs.Faults.{fault}
 use Rattle.books.specs.Items.{when}
-use Rattle.books.specs.Trees.{Tree, tree, truthOf, Bytes}
+use Rattle.books.specs.Trees.{Tree}
+use Rattle.books.specs.Readings.{tree, truthOf, Bytes}
 use Rattle.books.specs.Books.{long, body, conditionBytes, fieldOk, start, goodAt, checkedFrom, checked, Formed, Placed, Field, Rules, Judged, Meant}
 use Rattle.books.proofs.Spelling.{found, spelled}
 

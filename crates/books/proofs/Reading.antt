@@ -21,7 +21,8 @@ use Rattle.conditions.specs.declared.truth.Truth.{Truth}
 use Rattle.conditions.specs.declared.truth.Truth.the-variants.{True, False, Unknown}
 use Rattle.books.specs.Items.{itemAt, operands, takes, after, Suits}
 use Rattle.books.specs.Stacks.{top, value, applied}
-use Rattle.books.specs.Trees.{Tree, range, group, both, either, negated, meaning, grown, sole, treeFrom, tree, truthOf}
+use Rattle.books.specs.Trees.{Tree, range, group, both, either, negated, meaning}
+use Rattle.books.specs.Readings.{grown, sole, treeFrom, tree, truthOf}
 use Rattle.conditions.specs.Truths.{conj, disj, neg}
 
 tree-skip : (k : ℕ) (ts : List Tree) (bs : List ℕ) → k ≤ length bs → treeFrom k ts bs ≡ treeFrom 0 ts (drop k bs)

@@ -13,7 +13,8 @@ use Rattle.std.specs.declared.option.Option.the-variants.{Some, None}
 use Rattle.books.specs.declared.item.Item.{Item}
 use Rattle.books.specs.declared.item.Item.the-variants.{Range, Group, And, Or, Not}
 use Rattle.books.specs.Items.{itemAt, operands, Suits, when, wideAt}
-use Rattle.books.specs.Trees.{Tree, range, group, both, either, negated, spell, room, Sound, grown, sole, treeFrom, tree, Spells, Bytes, Spelled}
+use Rattle.books.specs.Trees.{Tree, range, group, both, either, negated, spell, room, Sound, Spells}
+use Rattle.books.specs.Readings.{grown, sole, treeFrom, tree, Bytes, Spelled}
 use Rattle.books.proofs.Reading.{tree-item, then-item, by-item}
 
 rejoin : (n : ℕ) → 256 * (n / 256) + n % 256 ≡ n

@@ -11,7 +11,8 @@ use Rattle.conditions.specs.OwnLaws.{own-lawful}
 use Rattle.conditions.specs.Steady.{conj-steady, disj-steady, neg-steady, test-steady}
 use Rattle.conditions.specs.Truths.{within}
 use Rattle.books.specs.Books.{Formed, conditionBytes, bookSays}
-use Rattle.books.specs.Trees.{Tree, range, group, both, either, negated, member, meaning, tree, truthOf}
+use Rattle.books.specs.Trees.{Tree, range, group, both, either, negated, member, meaning}
+use Rattle.books.specs.Readings.{tree, truthOf}
 
 meaning-steady : (e : Tree) (s t : State) → ToldMore s t → Stays (meaning e s) (meaning e t)
 meaning-steady (range v lo hi) s t m = test-steady (λ o. within o lo hi) refl (known s v) (known t v) (m v)

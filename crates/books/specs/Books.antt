@@ -16,7 +16,8 @@ use Rattle.states.specs.declared.state.State.{State}
 use Rattle.conditions.specs.declared.truth.Truth.{Truth}
 use Rattle.conditions.specs.Own.{withOwn}
 use Rattle.books.specs.Items.{when, wideAt}
-use Rattle.books.specs.Trees.{Tree, tree, truthOf, meaning, Spells}
+use Rattle.books.specs.Trees.{Tree, meaning, Spells}
+use Rattle.books.specs.Readings.{tree, truthOf}
 
 -- the length that a field states in the two bytes behind its tag, and so many bytes behind these
 abbrev pub long : List ℕ → ℕ

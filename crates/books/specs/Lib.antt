@@ -1,5 +1,6 @@
 pub mod Items
 pub mod Trees
+pub mod Readings
 pub mod Stacks
 pub mod Books
 pub mod BookLaws

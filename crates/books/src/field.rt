@@ -5,7 +5,7 @@ ghost use Prim.Native.Nat.{_≤_};
 ghost use lib.Dec.{ltb};
 ghost use lib.ListN.{length, drop};
 ghost use Rattle.books.specs.Items.{when};
-ghost use Rattle.books.specs.Trees.{Spelled};
+ghost use Rattle.books.specs.Readings.{Spelled};
 ghost use Rattle.books.specs.Books.{long, goodAt, fieldAt, checked, Judged};
 use crate::formula::is_formula;
 use crate::part::part;

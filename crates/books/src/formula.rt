@@ -3,7 +3,7 @@ ghost use mathlib.Core.Path.{_≡_};
 ghost use mathlib.Core.Bool.{true};
 ghost use lib.ListN.{length};
 ghost use Rattle.std.specs.Options.{isSome};
-ghost use Rattle.books.specs.Trees.{tree, truthOf};
+ghost use Rattle.books.specs.Readings.{tree, truthOf};
 use crate::item::next_item;
 use crate::stack::Stack;
 use conditions::truth::Truth;

@@ -7,7 +7,7 @@ ghost use lib.ListN.{length, take, drop};
 ghost use Rattle.std.specs.Options.{isSome, mapped};
 ghost use Rattle.std.specs.Results.{valueOr};
 ghost use Rattle.std.specs.Slices.{found};
-ghost use Rattle.books.specs.Trees.{tree};
+ghost use Rattle.books.specs.Readings.{tree};
 ghost use Rattle.books.specs.Books.{Formed, Placed, start, long, checked, conditionOf, bookSays, Meant};
 ghost use Rattle.books.specs.BookLaws.{book-lawful};
 ghost use Rattle.books.specs.Windows.{officeHours, Window};

@@ -7,7 +7,7 @@ use Rattle.std.proofs.shelf.Tests.{cond-true, and-from, le-leb, lt-ltb}
 use Rattle.std.specs.Options.{isSome}
 use Rattle.std.specs.declared.option.Option.the-variants.{Some}
 use Rattle.books.specs.Books.{start}
-use Rattle.books.specs.Trees.{tree}
+use Rattle.books.specs.Readings.{tree}
 use Rattle.books.proofs.Fields.{good-head, good-part, part-body, body-spelled}
 use Rattle.books.proofs.book.Book.condition.Needs as need
 
