@@ -1,6 +1,7 @@
 //! A condition's bytes: whether they are well formed, and what they say of a state.
 ghost use mathlib.Core.Path.{_≡_};
 ghost use mathlib.Core.Bool.{true};
+ghost use lib.Dec.{eqb};
 ghost use lib.ListN.{length};
 ghost use Rattle.std.specs.Options.{isSome};
 ghost use Rattle.books.specs.Readings.{tree, truthOf};
@@ -8,6 +9,13 @@ use crate::item::next_item;
 use crate::stack::Stack;
 use conditions::truth::Truth;
 use states::state::State;
+
+/// Whether just one value waits, as it must at the end.
+fn is_one(waiting: usize) -> bool
+    ensures { λ r. ⌜ r ≡ eqb waiting 1 ⌝ }
+{
+    waiting == 1
+}
 
 /// Whether the bytes spell a condition.
 pub(crate) fn is_formula(bytes: &[u8]) -> bool
@@ -22,7 +30,7 @@ pub(crate) fn is_formula(bytes: &[u8]) -> bool
         waiting = item.waiting_after(waiting);
         at += item.width();
     }
-    waiting == 1
+    is_one(waiting)
 }
 
 /// What a condition says of a state.

@@ -112,10 +112,17 @@ pub impl<'a> Language for Book<'a> as BookLanguage {
     }
 }
 
+/// Tag, length, and the item: TIME lies from 480 to 1080.
+fn hours_field() -> [u8; 9]
+    ensures { λ r. ⌜ r ≡ officeHours ⌝ }
+{
+    [0xC1, 0, 6, 0xB1, 2, 1, 224, 4, 56]
+}
+
 /// A book of one condition: TIME lies from 480 to 1080, office hours.
 pub fn office_hours() -> [u8; 9]
     ensures is { λ r. ⌜ r ≡ officeHours ⌝ }
     ensures window { λ r. ⌜ Window r ⌝ }
 {
-    [0xC1, 0, 6, 0xB1, 2, 1, 224, 4, 56]
+    hours_field()
 }

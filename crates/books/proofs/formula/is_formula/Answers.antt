@@ -21,4 +21,4 @@ loop-at-again c =
 pub returns : need.returns
 returns c =
     let r = c .loop-at .inv in
-    ap (λ w. eqb w 1) (r .long) ∙ sym (sole-one (r .ts)) ∙ sym (ap isSome (read-all r (c .loop-at-test .left)))
+    c .is-one .ensures ∙ ap (λ w. eqb w 1) (r .long) ∙ sym (sole-one (r .ts)) ∙ sym (ap isSome (read-all r (c .loop-at-test .left)))
