@@ -4,6 +4,8 @@ ghost use Rattle.grants.specs.Blank.{blank};
 use states::state::State;
 use states::state::StateDebug;
 
+pub mod number;
+
 /// What becomes of a grant that no chain justifies any more.
 #[derive(Clone, Copy, Debug, PartialEq, Eq)]
 pub enum Mode {
