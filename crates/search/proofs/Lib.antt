@@ -1,0 +1,6 @@
+mod Places
+mod Snoc
+mod Marked
+mod Bridge
+mod Found
+mod Prefix
