@@ -1,0 +1,3 @@
+//! The writer of command records.
+mod pens;
+pub mod writer;

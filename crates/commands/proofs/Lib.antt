@@ -1,0 +1,12 @@
+pub mod Cuts
+pub mod Entries
+pub mod Tags
+pub mod Walks
+pub mod Bridge
+pub mod Fitting
+pub mod Sound
+pub mod Spelling
+pub mod Making
+pub mod Laws
+pub mod Whole
+pub mod Again

@@ -1,0 +1,4 @@
+pub mod Law
+pub mod Reading
+pub mod Steps
+pub mod Drafts
