@@ -1,0 +1,13 @@
+pub mod Rows
+pub mod Checked
+pub mod Fitted
+pub mod Runs
+pub mod Swept
+pub mod Numbers
+pub mod Expiring
+pub mod Unbroken
+pub mod Wanting
+pub mod Kept
+pub mod Amended
+pub mod Whole
+pub mod Gathered
