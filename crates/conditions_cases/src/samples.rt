@@ -7,14 +7,14 @@ use std::alloc::AllocError;
 use std::alloc::Global;
 
 /// Stands for an unknown value in a table of cases.
-pub const X: u16 = 9999;
+pub(crate) const X: u16 = 9999;
 
 fn known(value: u16) -> Option<u16> {
     if value == X { None } else { Some(value) }
 }
 
 /// A report of four variables.
-pub fn told(time: u16, day: u16, groups: u16, path: u16) -> Report {
+pub(crate) fn told(time: u16, day: u16, groups: u16, path: u16) -> Report {
     Report {
         time: known(time),
         day: known(day),
@@ -26,12 +26,12 @@ pub fn told(time: u16, day: u16, groups: u16, path: u16) -> Report {
 }
 
 /// Person 1 calls at a minute of the day; nothing else is told.
-pub fn at(minute: u16) -> State {
+pub(crate) fn at(minute: u16) -> State {
     told(minute, X, X, X).state(1, None)
 }
 
 /// The truth of a number in a table of cases.
-pub fn expected(code: u16) -> Truth {
+pub(crate) fn expected(code: u16) -> Truth {
     match code {
         1 => Truth::False,
         2 => Truth::True,
@@ -40,7 +40,7 @@ pub fn expected(code: u16) -> Truth {
 }
 
 /// A row of six numbers; the small parts have one byte.
-pub fn row(from: u16, to: u16, days: u16, groups: u16, path: u16, barred: u16) -> Row {
+pub(crate) fn row(from: u16, to: u16, days: u16, groups: u16, path: u16, barred: u16) -> Row {
     Row {
         from,
         to,
@@ -52,7 +52,7 @@ pub fn row(from: u16, to: u16, days: u16, groups: u16, path: u16, barred: u16) -
 }
 
 /// Adds a field with a condition of `len` bytes: a test of group 0, denied again and again.
-pub fn add_condition(book: &mut Vec<u8>, len: u8) -> Result<(), AllocError> {
+pub(crate) fn add_condition(book: &mut Vec<u8>, len: u8) -> Result<(), AllocError> {
     book.extend_from_slice(&[0xC1, 0, len, 0xB2, 0])?;
     for _ in 2..len {
         book.push(0xB5)?;
@@ -61,7 +61,7 @@ pub fn add_condition(book: &mut Vec<u8>, len: u8) -> Result<(), AllocError> {
 }
 
 /// A book of `count` conditions of `len` bytes each.
-pub fn long_book(heap: Global, count: u16, len: u8) -> Result<Vec<u8>, AllocError> {
+pub(crate) fn long_book(heap: Global, count: u16, len: u8) -> Result<Vec<u8>, AllocError> {
     let mut book = Vec::new(heap);
     for _ in 0..count {
         add_condition(&mut book, len)?;
