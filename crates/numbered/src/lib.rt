@@ -25,13 +25,13 @@ pub enum Insertion {
 }
 
 fn is_numbered<T: Numbered>(row: &T, n: u32) -> bool
-    ensures { result ≡ (label row.now == n) }
+    ensures { result ≡ (T.label row.now == n) }
 {
     row.number() == n
 }
 
 fn is_below<T: Numbered>(row: &T, n: u32) -> bool
-    ensures { result ≡ nat_lt (label row.now) n }
+    ensures { result ≡ nat_lt (T.label row.now) n }
 {
     row.number() < n
 }
@@ -54,7 +54,7 @@ fn front_to_last<T: Copy>(rows: &mut [T])
 
 /// The place of the first row numbered `n`.
 pub fn find<T: Numbered>(rows: &[T], n: u32) -> Option<usize>
-    ensures is { result ≡ place_of label n rows.now }
+    ensures is { result ≡ place_of T.label n rows.now }
     ensures within { IfSome result (λ i. i < length rows.now) }
 {
     for (i, row) in rows.iter().enumerate() {
@@ -79,7 +79,7 @@ fn in_use<T>(rows: &[T], count: usize) -> usize
 
 /// How many rows at the front have a number below `n`.
 fn rank<T: Numbered>(rows: &[T], n: u32) -> usize
-    ensures is { result ≡ before label n rows.now }
+    ensures is { result ≡ before T.label n rows.now }
     ensures within { result ≤ length rows.now }
 {
     let mut at = 0;
@@ -91,12 +91,12 @@ fn rank<T: Numbered>(rows: &[T], n: u32) -> usize
 
 /// Adds `row` in its place among the first `count` rows.
 pub fn insert<T: Numbered + Copy>(rows: &mut [T], count: &mut usize, row: T) -> Insertion
-    ensures is { result ≡ insertion label row (length rows.old) (take count.old rows.old) }
-    ensures after { take count.new rows.new ≡ after_insertion label row (take count.old rows.old) result }
+    ensures is { result ≡ insertion T.label row (length rows.old) (take count.old rows.old) }
+    ensures after { take count.new rows.new ≡ after_insertion T.label row (take count.old rows.old) result }
     ensures within { count.old ≤ length rows.old → count.new ≤ length rows.old }
-    ensures rises { Rises label (take count.old rows.old) → Rises label (take count.new rows.new) }
+    ensures rises { Rises T.label (take count.old rows.old) → Rises T.label (take count.new rows.new) }
     ensures refused { KeptUnlessAdded result ((rows.new ≡ rows.old) × (count.new ≡ count.old)) }
-    ensures law { PutLaws label row (take count.old rows.old) }
+    ensures law { PutLaws T.label row (take count.old rows.old) }
 {
     let n = row.number();
     let used = in_use(rows, *count);
@@ -115,12 +115,12 @@ pub fn insert<T: Numbered + Copy>(rows: &mut [T], count: &mut usize, row: T) -> 
 
 /// Takes the row numbered `n` out of the first `count` rows, and answers it; the later rows move up.
 pub fn remove<T: Numbered + Copy>(rows: &mut [T], count: &mut usize, n: u32) -> Option<T>
-    ensures is { result ≡ row_of label n (take count.old rows.old) }
-    ensures after { take count.new rows.new ≡ without label n (take count.old rows.old) }
+    ensures is { result ≡ row_of T.label n (take count.old rows.old) }
+    ensures after { take count.new rows.new ≡ without T.label n (take count.old rows.old) }
     ensures within { count.old ≤ length rows.old → count.new ≤ length rows.old }
-    ensures rises { Rises label (take count.old rows.old) → Rises label (take count.new rows.new) }
+    ensures rises { Rises T.label (take count.old rows.old) → Rises T.label (take count.new rows.new) }
     ensures refused { KeptIfNone result ((rows.new ≡ rows.old) × (count.new ≡ count.old)) }
-    ensures law { WithoutLaws label n (take count.old rows.old) }
+    ensures law { WithoutLaws T.label n (take count.old rows.old) }
 {
     let used = in_use(rows, *count);
     let at = find(&rows[0..used], n)?;

@@ -19,12 +19,12 @@ there f row rows count used n o b t u e p q r =
     ∙ ap (λ xs. is_some (place_of f n xs)) (sym (used_part count used rows u))
     ∙ ap is_some (sym p) ∙ sym q ∙ r
 
-pub returns-then-is-some : goal.returns-then-is-some
-returns-then-is-some g c =
+pub returns-then-is_some : goal.returns-then-is_some
+returns-then-is_some g c =
     let f = g.T.Numbered.label in
     let rows = c.args.rows.now in
     let count = c.args.count.now in
-    let taken = there f c.args.row rows count _ _ _ _ true c.in-use-used.ensures.is c.number-n.ensures c.find.ensures.is c.is-some.ensures c.if-is-some.true in
+    let taken = there f c.args.row rows count _ _ _ _ true c.in_use-used.ensures.is c.number-n.ensures c.find.ensures.is c.is_some.ensures c.if-is_some.true in
     record {
       is = ap (λ t. answer_to t (leb (length rows) (length (take count rows)))) (sym taken);
       after = refl;
@@ -39,7 +39,7 @@ returns-then-used-rows g c =
     let f = g.T.Numbered.label in
     let rows = c.args.rows.now in
     let count = c.args.count.now in
-    let free = there f c.args.row rows count _ _ _ _ false c.in-use-used.ensures.is c.number-n.ensures c.find.ensures.is c.is-some.ensures c.if-is-some.false in
+    let free = there f c.args.row rows count _ _ _ _ false c.in_use-used.ensures.is c.number-n.ensures c.find.ensures.is c.is_some.ensures c.if-is_some.false in
     let full : leb (length rows) (length (take count rows)) ≡ true = le-leb _ _ (omega arith) in
     record {
       is = λ i. answer_to (sym free i) (sym full i);
@@ -57,14 +57,14 @@ returns g c =
     let rows = c.args.rows.now in
     let count = c.args.count.now in
     let old = take count rows in
-    let used = c.in-use-used.result in
-    let used-is = c.in-use-used.ensures.is in
-    let free = there f row rows count _ _ _ _ false used-is c.number-n.ensures c.find.ensures.is c.is-some.ensures c.if-is-some.false in
-    let room : used < length rows = omega (arith, c.in-use-used.ensures.within, c.if-used-rows.false) in
+    let used = c.in_use-used.result in
+    let used-is = c.in_use-used.ensures.is in
+    let free = there f row rows count _ _ _ _ false used-is c.number-n.ensures c.find.ensures.is c.is_some.ensures c.if-is_some.false in
+    let room : used < length rows = omega (arith, c.in_use-used.ensures.within, c.if-used-rows.false) in
     let at-is : c.rank-at.result ≡ before f (f row) old =
     c.rank-at.ensures.is ∙ ap (λ n. before f n (take (used - 0) rows)) c.number-n.ensures ∙ ap (before f (f row)) (used_part count used rows used-is) in
     let same : take used rows ≡ old = ap (λ k. take k rows) used-is ∙ take_used count rows in
-    let moved = turned_in rows c.last-to-front.new.rows used c.rank-at.result row (omega (arith, at-is, before_le f (f row) old)) room c.last-to-front.ensures in
+    let moved = turned_in rows c.last_to_front.new.rows used c.rank-at.result row (omega (arith, at-is, before_le f (f row) old)) room c.last_to_front.ensures in
     let is_put = moved ∙ ap (λ xs. insert xs c.rank-at.result row) same ∙ ap (λ k. insert old k row) at-is ∙ sym (put_is f row old) in
     let laws = put_laws f row old in
     record {

@@ -4,12 +4,12 @@ use Rattle.numbered.proofs.rank.Goals as goal
 
 pub loop-at-preserved : goal.loop-at-preserved
 loop-at-preserved g c =
-    let e = before_more g.T.Numbered.label c.args.n c.loop-at.at c.args.rows.now _ c.loop-at-test.true c.index-rows-at.is (sym c.is-below.ensures ∙ c.if-is-below.true) in
+    let e = before_more g.T.Numbered.label c.args.n c.loop-at.at c.args.rows.now _ c.loop-at-test.true c.index-rows-at.is (sym c.is_below.ensures ∙ c.if-is_below.true) in
     (omega arith, omega arith)
 
-pub returns-else-is-below : goal.returns-else-is-below
-returns-else-is-below g c =
-    let e = before_here g.T.Numbered.label c.args.n c.loop-at.at c.args.rows.now _ c.loop-at-test.true c.index-rows-at.is (sym c.is-below.ensures ∙ c.if-is-below.false) in
+pub returns-else-is_below : goal.returns-else-is_below
+returns-else-is_below g c =
+    let e = before_here g.T.Numbered.label c.args.n c.loop-at.at c.args.rows.now _ c.loop-at-test.true c.index-rows-at.is (sym c.is_below.ensures ∙ c.if-is_below.false) in
     record { is = omega arith; within = omega arith }
 
 pub returns-after-loop-at : goal.returns-after-loop-at

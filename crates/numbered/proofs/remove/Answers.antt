@@ -13,20 +13,20 @@ place_is : {X : Type 0} (f : X → ℕ) (rows : List X) (count used n : ℕ) (fo
     → used ≡ length (take count rows) → found ≡ place_of f n (take (used - 0) rows) → found ≡ o → place_of f n (take count rows) ≡ o
 place_is f rows count used n found o u p e = sym (p ∙ ap (place_of f n) (used_part count used rows u)) ∙ e
 
-pub returns-in-err-at : goal.returns-in-err-at
-returns-in-err-at g c =
+pub returns-in_err-at : goal.returns-in_err-at
+returns-in_err-at g c =
     let f = g.T.Numbered.label in
     let n = c.args.n in
     let rows = c.args.rows.now in
     let count = c.args.count.now in
     let old = take count rows in
-    let gone = row_none f n 0 old (place_is f rows count _ n _ None c.in-use-used.ensures.is c.find.ensures.is c.in-err-at.was) in
+    let gone = row_none f n 0 old (place_is f rows count _ n _ None c.in_use-used.ensures.is c.find.ensures.is c.in_err-at.was) in
     record {
-      is = c.from-residual.ensures ∙ sym gone;
+      is = c.from_residual.ensures ∙ sym gone;
       after = sym (without_none f n old gone);
       within = λ h. h;
       rises = λ h. h;
-      refused = rw c.from-residual.ensures (refl, refl);
+      refused = rw c.from_residual.ensures (refl, refl);
       law = without_laws f n old;
     }
 
@@ -37,16 +37,16 @@ returns g c =
     let rows = c.args.rows.now in
     let count = c.args.count.now in
     let old = take count rows in
-    let used = c.in-use-used.result in
-    let used-is = c.in-use-used.ensures.is in
-    let at = c.in-ok-at.at in
+    let used = c.in_use-used.result in
+    let used-is = c.in_use-used.ensures.is in
+    let at = c.in_ok-at.at in
     let row = c.index-rows-at.result in
-    let q = row_at f n 0 at old row (place_is f rows count used n _ (Some at) used-is c.find.ensures.is c.in-ok-at.was) in
+    let q = row_at f n 0 at old row (place_is f rows count used n _ (Some at) used-is c.find.ensures.is c.in_ok-at.was) in
     let at-is : q.0 ≡ at = omega (arith, q.1) in
-    let below : at < used = omega (arith, c.in-ok-at.ensures.within, length-take (used - 0) rows) in
+    let below : at < used = omega (arith, c.in_ok-at.ensures.within, length-take (used - 0) rows) in
     let inside : at < count = omega (arith, length-take count rows) in
     let same : take used rows ≡ old = ap (λ k. take k rows) used-is ∙ take_used count rows in
-    let moved = turned_out rows c.front-to-last.new.rows used at below c.in-use-used.ensures.within c.front-to-last.ensures in
+    let moved = turned_out rows c.front_to_last.new.rows used at below c.in_use-used.ensures.within c.front_to_last.ensures in
     let is-without =
     moved ∙ ap (λ xs. take at xs ++ drop (at + 1) xs) same ∙ ap (λ k. take at old ++ drop k old) (add-one at) ∙ sym (q.3 ∙ ap (remove old) at-is) in
     let laws = without_laws f n old in
