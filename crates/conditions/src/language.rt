@@ -29,7 +29,7 @@ pub trait Language {
 
 /// Whether condition `n` is true of the state: unknown is not true.
 fn is_true_of<L: Language>(language: &L, n: u16, state: &State) -> bool
-    ensures { result ≡ is_true (says language.now n state.now) }
+    ensures { result ≡ is_true (L.says language.now n state.now) }
 {
     language.truth(n, state).is_true()
 }
@@ -38,8 +38,8 @@ fn is_true_of<L: Language>(language: &L, n: u16, state: &State) -> bool
 /// true of every state that is told more, and so what is true of a kept part of a state is true
 /// of the whole state, in every lawful language.
 pub fn holds<L: Language>(language: &L, n: u16, state: &State) -> bool
-    ensures is { result ≡ is_true (says language.now n state.now) }
-    ensures stays { (t : State) → result ≡ true → InRange t → ToldMore state.now t → says language.now n t ≡ True }
+    ensures is { result ≡ is_true (L.says language.now n state.now) }
+    ensures stays { (t : State) → result ≡ true → InRange t → ToldMore state.now t → L.says language.now n t ≡ True }
     ensures whole { KeptThenWhole }
 {
     is_true_of(language, n, state)

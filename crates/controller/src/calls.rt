@@ -46,16 +46,16 @@ impl<L: Language> Cabinet<L> {
 
     /// Names the owners of the 32 hooks (0 means no hook) and the kept variables, one bit for each.
     pub fn fit(&mut self, owners: &[u8], kept: u8) -> Result<(), Fault>
-        ensures is { result ≡ done (reply size says self.old (fitting owners.now kept)) }
-        ensures after { Follows size says self.old (fitting owners.now kept) self.new }
+        ensures is { result ≡ done (reply L.size L.says self.old (fitting owners.now kept)) }
+        ensures after { Follows L.size L.says self.old (fitting owners.now kept) self.new }
     {
         self.ledger.fit(owners, kept)
     }
 
     /// Records a grant by the caller, if a chain justifies it, and answers its number.
     pub fn issue(&mut self, caller: u8, hook: u8, grantee: u8, terms: &Terms) -> Result<u32, Fault>
-        ensures is { result ≡ told (reply size says self.old (issuing caller hook grantee terms.now.execute terms.now.onward terms.now.mode terms.now.report)) }
-        ensures after { Follows size says self.old (issuing caller hook grantee terms.now.execute terms.now.onward terms.now.mode terms.now.report) self.new }
+        ensures is { result ≡ told (reply L.size L.says self.old (issuing caller hook grantee terms.now.execute terms.now.onward terms.now.mode terms.now.report)) }
+        ensures after { Follows L.size L.says self.old (issuing caller hook grantee terms.now.execute terms.now.onward terms.now.mode terms.now.report) self.new }
     {
         self.ledger
             .issue(&self.language, caller, hook, grantee, terms)
@@ -63,16 +63,16 @@ impl<L: Language> Cabinet<L> {
 
     /// Replaces the caller's own grant under new terms and a new number, which is the answer.
     pub fn amend(&mut self, caller: u8, number: u32, terms: &Terms) -> Result<u32, Fault>
-        ensures is { result ≡ told (reply size says self.old (amending caller number terms.now.execute terms.now.onward terms.now.mode terms.now.report)) }
-        ensures after { Follows size says self.old (amending caller number terms.now.execute terms.now.onward terms.now.mode terms.now.report) self.new }
+        ensures is { result ≡ told (reply L.size L.says self.old (amending caller number terms.now.execute terms.now.onward terms.now.mode terms.now.report)) }
+        ensures after { Follows L.size L.says self.old (amending caller number terms.now.execute terms.now.onward terms.now.mode terms.now.report) self.new }
     {
         self.ledger.amend(&self.language, caller, number, terms)
     }
 
     /// Takes out the caller's own grant; answers how many others stood before and do not after.
     pub fn withdraw(&mut self, caller: u8, number: u32) -> Result<u32, Fault>
-        ensures is { result ≡ told (reply size says self.old (withdrawing caller number)) }
-        ensures after { Follows size says self.old (withdrawing caller number) self.new }
+        ensures is { result ≡ told (reply L.size L.says self.old (withdrawing caller number)) }
+        ensures after { Follows L.size L.says self.old (withdrawing caller number) self.new }
     {
         self.ledger.withdraw(&self.language, caller, number)
     }
@@ -86,9 +86,9 @@ impl<L: Language> Cabinet<L> {
         report: &Report,
         chain: &mut [u32; 8],
     ) -> Result<Slip, Fault>
-        ensures is { result ≡ slip_of (reply size says self.old (drawing caller hook report.now)) }
-        ensures list { chain.new ≡ listed chain.old (reply size says self.old (drawing caller hook report.now)) }
-        ensures after { Follows size says self.old (drawing caller hook report.now) self.new }
+        ensures is { result ≡ slip_of (reply L.size L.says self.old (drawing caller hook report.now)) }
+        ensures list { chain.new ≡ listed chain.old (reply L.size L.says self.old (drawing caller hook report.now)) }
+        ensures after { Follows L.size L.says self.old (drawing caller hook report.now) self.new }
     {
         let named = self.ledger.chain_for(&self.language, caller, hook, report)?;
         self.loans.happen(hook, Event::Draw(caller))?;
@@ -97,24 +97,24 @@ impl<L: Language> Cabinet<L> {
 
     /// The promised key goes out.
     fn take_key(&mut self, hook: u8, person: u8) -> Result<(), Fault>
-        ensures is { result ≡ done (reply size says self.old (taking hook person)) }
-        ensures after { Follows size says self.old (taking hook person) self.new }
+        ensures is { result ≡ done (reply L.size L.says self.old (taking hook person)) }
+        ensures after { Follows L.size L.says self.old (taking hook person) self.new }
     {
         self.loans.happen(hook, Event::Take(person))
     }
 
     /// The promised key stays in.
     fn leave_key(&mut self, hook: u8, person: u8) -> Result<(), Fault>
-        ensures is { result ≡ done (reply size says self.old (leaving hook person)) }
-        ensures after { Follows size says self.old (leaving hook person) self.new }
+        ensures is { result ≡ done (reply L.size L.says self.old (leaving hook person)) }
+        ensures after { Follows L.size L.says self.old (leaving hook person) self.new }
     {
         self.loans.happen(hook, Event::Leave(person))
     }
 
     /// Spends a slip: the key is out.
     pub fn take(&mut self, slip: Slip) -> Result<(), RefusedSlip>
-        ensures is { result ≡ spent slip (reply size says self.old (taking slip.hook slip.person)) }
-        ensures after { Follows size says self.old (taking slip.hook slip.person) self.new }
+        ensures is { result ≡ spent slip (reply L.size L.says self.old (taking slip.hook slip.person)) }
+        ensures after { Follows L.size L.says self.old (taking slip.hook slip.person) self.new }
     {
         let happened = self.take_key(slip.hook, slip.person);
         slip.spend(happened)
@@ -122,8 +122,8 @@ impl<L: Language> Cabinet<L> {
 
     /// Spends a slip: the key is in again.
     pub fn leave(&mut self, slip: Slip) -> Result<(), RefusedSlip>
-        ensures is { result ≡ spent slip (reply size says self.old (leaving slip.hook slip.person)) }
-        ensures after { Follows size says self.old (leaving slip.hook slip.person) self.new }
+        ensures is { result ≡ spent slip (reply L.size L.says self.old (leaving slip.hook slip.person)) }
+        ensures after { Follows L.size L.says self.old (leaving slip.hook slip.person) self.new }
     {
         let happened = self.leave_key(slip.hook, slip.person);
         slip.spend(happened)
@@ -131,8 +131,8 @@ impl<L: Language> Cabinet<L> {
 
     /// Brings the key of `hook`, which is out, in again.
     pub fn give_back(&mut self, caller: u8, hook: u8) -> Result<(), Fault>
-        ensures is { result ≡ done (reply size says self.old (returning caller hook)) }
-        ensures after { Follows size says self.old (returning caller hook) self.new }
+        ensures is { result ≡ done (reply L.size L.says self.old (returning caller hook)) }
+        ensures after { Follows L.size L.says self.old (returning caller hook) self.new }
     {
         self.ledger.check_return(caller, hook)?;
         self.loans.happen(hook, Event::Return)
@@ -140,7 +140,7 @@ impl<L: Language> Cabinet<L> {
 
     /// Whether the grant numbered `number` stands; refused where there is none.
     pub fn stands(&self, number: u32) -> Result<bool, Fault>
-        ensures { result ≡ standing_of (size self.now.language) (says self.now.language) self.now.ledger number }
+        ensures { result ≡ standing_of (L.size self.now.language) (L.says self.now.language) self.now.ledger number }
     {
         self.ledger.stands(&self.language, number)
     }

@@ -140,8 +140,8 @@ fn spent_shown(r: Result<(), RefusedSlip>) -> Answer
 impl<L: Language> Cabinet<L> {
     /// One call of a run.
     fn apply(&mut self, call: &Call<'_>) -> Answer
-        ensures is { result ≡ shown (reply size says self.old (asked call.now)) }
-        ensures after { Follows size says self.old (asked call.now) self.new }
+        ensures is { result ≡ shown (reply L.size L.says self.old (asked call.now)) }
+        ensures after { Follows L.size L.says self.old (asked call.now) self.new }
     {
         match *call {
             Call::Fit { owners, kept } => done_shown(self.fit(owners, kept)),
@@ -186,7 +186,7 @@ impl<L: Language> Cabinet<L> {
 /// calls draw and neither take nor leave stays promised.
 pub fn replay<L: Language>(language: L, calls: &[Call<'_>], answers: &mut [Answer]) -> Cabinet<L>
     ensures language { result.language ≡ language }
-    ensures promise { WholePromise (size language) (says language) (take (length answers.old) (map asked calls.now)) (world result) answers.old answers.new }
+    ensures promise { WholePromise (L.size language) (L.says language) (take (length answers.old) (map asked calls.now)) (world result) answers.old answers.new }
     ensures laws { RecordLaws }
 {
     let mut cabinet = Cabinet::new(language);

@@ -78,7 +78,7 @@ impl Ledger {
 
     /// Whether the grant, on record or not, stands.
     fn justifies<L: Language>(&self, language: &L, grant: &Grant) -> bool
-        ensures { result ≡ stands_in (size language.now) (says language.now) self.now grant.now }
+        ensures { result ≡ stands_in (L.size language.now) (L.says language.now) self.now grant.now }
     {
         stands(language, self.grants.rows(), self.owner(grant.hook), grant)
     }
@@ -90,7 +90,7 @@ impl Ledger {
         grant: &Grant,
         report: &Report,
     ) -> Result<(), Fault>
-        ensures { result ≡ passed (issue_on (size language.now) (says language.now) self.now grant.now report.now) }
+        ensures { result ≡ passed (issue_on (L.size language.now) (L.says language.now) self.now grant.now report.now) }
     {
         let owner = self.owner(grant.hook);
         check_parties(grant.grantor, grant.grantee, grant.hook, owner)?;
@@ -131,8 +131,8 @@ impl Ledger {
         grantee: u8,
         terms: &Terms,
     ) -> Result<u32, Fault>
-        ensures is { (hs : List HookState) → result ≡ told (step_on (size language.now) (says language.now) self.old hs (issuing caller hook grantee terms.now.execute terms.now.onward terms.now.mode terms.now.report)).1 }
-        ensures after { (hs : List HookState) → world_with self.new hs ≡ (step_on (size language.now) (says language.now) self.old hs (issuing caller hook grantee terms.now.execute terms.now.onward terms.now.mode terms.now.report)).0 }
+        ensures is { (hs : List HookState) → result ≡ told (step_on (L.size language.now) (L.says language.now) self.old hs (issuing caller hook grantee terms.now.execute terms.now.onward terms.now.mode terms.now.report)).1 }
+        ensures after { (hs : List HookState) → world_with self.new hs ≡ (step_on (L.size language.now) (L.says language.now) self.old hs (issuing caller hook grantee terms.now.execute terms.now.onward terms.now.mode terms.now.report)).0 }
     {
         let grant = self.grant_by(caller, hook, grantee, terms);
         self.check_issue(language, &grant, &terms.report)?;
@@ -148,7 +148,7 @@ impl Ledger {
         grant: &Grant,
         report: &Report,
     ) -> Result<(), Fault>
-        ensures { result ≡ passed (amend_on (size language.now) (says language.now) self.now old number grant.now report.now) }
+        ensures { result ≡ passed (amend_on (L.size language.now) (L.says language.now) self.now old number grant.now report.now) }
     {
         check_person(grant.grantor, 2)?;
         check_terms(
@@ -172,7 +172,7 @@ impl Ledger {
 
     /// The places of the grants that stand.
     fn standing<L: Language>(&self, language: &L) -> u128
-        ensures { Standing (size language.now) (says language.now) self.now result }
+        ensures { Standing (L.size language.now) (L.says language.now) self.now result }
     {
         standing(language, self.grants.rows(), &self.owners)
     }
@@ -186,7 +186,7 @@ impl Ledger {
     }
     /// Takes out every grant of mode E that does not stand.
     fn settle<L: Language>(&mut self, language: &L)
-        ensures { (hs : List HookState) → world_with self.new hs ≡ settled (size language.now) (says language.now) (world_with self.old hs) }
+        ensures { (hs : List HookState) → world_with self.new hs ≡ settled (L.size language.now) (L.says language.now) (world_with self.old hs) }
     {
         let standing = self.standing(language);
         self.sweep(standing);
@@ -201,8 +201,8 @@ impl Ledger {
         number: u32,
         terms: &Terms,
     ) -> Result<u32, Fault>
-        ensures is { (hs : List HookState) → result ≡ told (step_on (size language.now) (says language.now) self.old hs (amending caller number terms.now.execute terms.now.onward terms.now.mode terms.now.report)).1 }
-        ensures after { (hs : List HookState) → world_with self.new hs ≡ (step_on (size language.now) (says language.now) self.old hs (amending caller number terms.now.execute terms.now.onward terms.now.mode terms.now.report)).0 }
+        ensures is { (hs : List HookState) → result ≡ told (step_on (L.size language.now) (L.says language.now) self.old hs (amending caller number terms.now.execute terms.now.onward terms.now.mode terms.now.report)).1 }
+        ensures after { (hs : List HookState) → world_with self.new hs ≡ (step_on (L.size language.now) (L.says language.now) self.old hs (amending caller number terms.now.execute terms.now.onward terms.now.mode terms.now.report)).0 }
     {
         let old = self.grants.get(number);
         let known = old.unwrap_or(Grant::blank());
@@ -216,8 +216,8 @@ impl Ledger {
 
     /// Takes a grant out, and what falls with it; answers how many others stood before and do not after.
     fn end<L: Language>(&mut self, language: &L, number: u32) -> u32
-        ensures is { (hs : List HookState) → Orphaned result ≡ (does (size language.now) (says language.now) kept whole (world_with self.old hs) (withdrawing 0 number)).1 }
-        ensures after { (hs : List HookState) → world_with self.new hs ≡ (does (size language.now) (says language.now) kept whole (world_with self.old hs) (withdrawing 0 number)).0 }
+        ensures is { (hs : List HookState) → Orphaned result ≡ (does (L.size language.now) (L.says language.now) kept whole (world_with self.old hs) (withdrawing 0 number)).1 }
+        ensures after { (hs : List HookState) → world_with self.new hs ≡ (does (L.size language.now) (L.says language.now) kept whole (world_with self.old hs) (withdrawing 0 number)).0 }
     {
         let before = self.standing(language);
         let gone = self.grants.find(number).unwrap_or(96);
@@ -236,8 +236,8 @@ impl Ledger {
         caller: u8,
         number: u32,
     ) -> Result<u32, Fault>
-        ensures is { (hs : List HookState) → result ≡ told (step_on (size language.now) (says language.now) self.old hs (withdrawing caller number)).1 }
-        ensures after { (hs : List HookState) → world_with self.new hs ≡ (step_on (size language.now) (says language.now) self.old hs (withdrawing caller number)).0 }
+        ensures is { (hs : List HookState) → result ≡ told (step_on (L.size language.now) (L.says language.now) self.old hs (withdrawing caller number)).1 }
+        ensures after { (hs : List HookState) → world_with self.new hs ≡ (step_on (L.size language.now) (L.says language.now) self.old hs (withdrawing caller number)).0 }
     {
         let old = self.grants.get(number);
         check_withdraw(caller, old, number)?;
@@ -246,7 +246,7 @@ impl Ledger {
 
     /// Whether the grant numbered `number` stands; refused where there is none.
     pub fn stands<L: Language>(&self, language: &L, number: u32) -> Result<bool, Fault>
-        ensures { result ≡ standing_of (size language.now) (says language.now) self.now number }
+        ensures { result ≡ standing_of (L.size language.now) (L.says language.now) self.now number }
     {
         match self.grants.get(number) {
             Some(grant) => Ok(self.justifies(language, &grant)),
@@ -263,7 +263,7 @@ impl Ledger {
         hook: u8,
         report: &Report,
     ) -> Result<Named, Fault>
-        ensures is { result ≡ named_on (size language.now) (says language.now) self.now caller hook report.now }
+        ensures is { result ≡ named_on (L.size language.now) (L.says language.now) self.now caller hook report.now }
         ensures short { IfOk result (λ n. n.length ≤ 8) }
     {
         let owner = self.owner(hook);

@@ -19,7 +19,7 @@ use states::report::Report;
 /// Spends the slip of a key that is promised so: the key is taken, or left.
 fn spend<L: Language>(cabinet: &mut Cabinet<L>, slip: Slip, outcome: Outcome)
     requires { hook_at (world cabinet.old) slip.hook ≡ Promised slip.person }
-    ensures { Follows size says cabinet.old (spends outcome slip.hook slip.person) cabinet.new }
+    ensures { Follows L.size L.says cabinet.old (spends outcome slip.hook slip.person) cabinet.new }
 {
     match outcome {
         Outcome::Taken => match cabinet.take(slip) {
@@ -41,7 +41,7 @@ fn draw<L: Language>(
     report: Report,
     outcome: Outcome,
 ) -> Result<u32, Fault>
-    ensures { Performs size says cabinet.old (commands.Draw caller hook report outcome) result cabinet.new }
+    ensures { Performs L.size L.says cabinet.old (commands.Draw caller hook report outcome) result cabinet.new }
 {
     let mut chain = [0u32; 8];
     let slip = cabinet.draw(caller, hook, &report, &mut chain)?;
@@ -52,7 +52,7 @@ fn draw<L: Language>(
 
 /// Brings a key back; answers 0.
 fn give_back<L: Language>(cabinet: &mut Cabinet<L>, caller: u8, hook: u8) -> Result<u32, Fault>
-    ensures { Performs size says cabinet.old (commands.Return caller hook) result cabinet.new }
+    ensures { Performs L.size L.says cabinet.old (commands.Return caller hook) result cabinet.new }
 {
     cabinet.give_back(caller, hook)?;
     Ok(0)
@@ -71,7 +71,7 @@ fn terms_of(execute: u16, onward: u16, mode: Mode, report: Report) -> Terms
 
 /// Puts a command to the cabinet; answers its number, or the refusal.
 pub(crate) fn perform<L: Language>(cabinet: &mut Cabinet<L>, command: Command) -> Result<u32, Fault>
-    ensures { Performs size says cabinet.old command result cabinet.new }
+    ensures { Performs L.size L.says cabinet.old command result cabinet.new }
 {
     match command {
         Command::Issue {

@@ -33,7 +33,7 @@ fn front<'a>(file: &'a [u8]) -> &'a [u8]
 /// Fits a new cabinet, and then checks the book that it goes by.
 fn prepare<L: Language>(cabinet: &mut Cabinet<L>, parts: SetUp<'_>) -> Result<(), Fault>
     requires fresh { world cabinet.old ≡ new }
-    ensures { Fitted size says cabinet.old (parts_of parts.entry) result cabinet.new }
+    ensures { Fitted L.size L.says cabinet.old (parts_of parts.entry) result cabinet.new }
 {
     cabinet.fit(parts.owners, parts.kept)?;
     check(parts.book)?;
@@ -49,7 +49,7 @@ fn run<L: Language>(
 ) -> Result<String, AllocError>
     requires fresh { world cabinet.old ≡ new }
     requires within { length parts.commands.now ≤ end }
-    ensures { IfOk result (λ s. string_bytes s ≡ runs (size cabinet.old.language) (says cabinet.old.language) (parts_of parts.entry) end) }
+    ensures { IfOk result (λ s. string_bytes s ≡ runs (L.size cabinet.old.language) (L.says cabinet.old.language) (parts_of parts.entry) end) }
 {
     match prepare(cabinet, parts) {
         Ok(()) => answer_all(heap, cabinet, end, parts.commands),

@@ -26,8 +26,8 @@ fn answer<L: Language>(
     count: usize,
     bytes: &[u8],
 ) -> Result<String, AllocError>
-    ensures left { Answers size says cabinet.old bytes.now cabinet.new }
-    ensures written { IfOk result (λ s. string_bytes s ≡ writes size says cabinet.old count bytes.now) }
+    ensures left { Answers L.size L.says cabinet.old bytes.now cabinet.new }
+    ensures written { IfOk result (λ s. string_bytes s ≡ writes L.size L.says cabinet.old count bytes.now) }
 {
     match read(bytes) {
         Ok(command) => {
@@ -46,7 +46,7 @@ pub(crate) fn answer_all<L: Language>(
     commands: &[u8],
 ) -> Result<String, AllocError>
     requires { length commands.now ≤ end }
-    ensures { IfOk result (λ s. string_bytes s ≡ continues size says cabinet.old 1 (end - length commands.now) commands.now) }
+    ensures { IfOk result (λ s. string_bytes s ≡ continues L.size L.says cabinet.old 1 (end - length commands.now) commands.now) }
 {
     let mut text = String::new(heap);
     let mut rest = commands;
