@@ -2,9 +2,11 @@
 
 A slip is made by a draw and spent by take or leave, and in no other way. Each sample below is a small
 program over the crate `controller`. The first spends its slip, and builds. Each other one must not build, for
-the one error that is named. Only the front end runs, so nothing is proved here and it takes some seconds.
+the one error that is named. Nothing is proved here: `rt try` compiles a
+sample, and runs it where it builds.
 """
 import pathlib
+import shutil
 import subprocess
 import sys
 import tempfile
@@ -52,34 +54,35 @@ SAMPLES = [
 ]
 
 
-def compiler():
-    guide = subprocess.run(["rt", "doc"], capture_output=True, text=True, check=True).stdout.strip()
-    kit = pathlib.Path(guide).resolve().parents[1]
-    words = [str(kit / "bin/rattle-print-mir"), "main.rt", "--crate-name", "visit"]
-    words += ["--extern", f"std={kit}/rlib/std.rlib", "-L", f"dependency={kit}/rlib"]
+def repository(folder):
+    """A repository of the crates that the samples need, as they stand here, and of one program."""
     for name in LIBRARIES:
-        words += ["--lib", f"{name}={ROOT}/crates/{name}/src/lib.rt"]
-    return words
+        shutil.copytree(ROOT / "crates" / name, folder / "crates" / name, ignore=shutil.ignore_patterns("out", "must-fail"))
+    listed = [line for line in (ROOT / "crates.txt").read_text(encoding="utf-8").split("\n") if line.split(":")[0] in LIBRARIES]
+    (folder / "crates.txt").write_text("\n".join(listed) + f"\nvisit: {' '.join(LIBRARIES)}\n", encoding="utf-8")
+    (folder / "crates/visit/src").mkdir(parents=True)
+    return folder / "crates/visit"
 
 
 def main():
-    words = compiler()
     failed = 0
-    for name, handling, error in SAMPLES:
-        with tempfile.TemporaryDirectory() as folder:
-            pathlib.Path(folder, "main.rt").write_text(PROGRAM % handling, encoding="utf-8")
-            run = subprocess.run(words, cwd=folder, capture_output=True, text=True)
-        errors = [line for line in run.stderr.split("\n") if "error[" in line]
-        if error is None:
-            good = run.returncode == 0 and not errors
-            verdict = "builds"
-        else:
-            good = run.returncode == 1 and errors and all(error in line for line in errors)
-            verdict = f"does not build: {error}"
-        print(f"slip {name}: {verdict if good else 'NOT AS IT MUST BE'}")
-        if not good:
-            print(run.stderr[-3000:])
-            failed += 1
+    with tempfile.TemporaryDirectory() as folder:
+        visit = repository(pathlib.Path(folder))
+        for name, handling, error in SAMPLES:
+            (visit / "src/main.rt").write_text(PROGRAM % handling, encoding="utf-8")
+            run = subprocess.run(["rt", "try"], cwd=visit, capture_output=True, text=True)
+            said = run.stdout + run.stderr
+            errors = [line for line in said.split("\n") if "error[" in line]
+            if error is None:
+                good = "run=ended status=0" in said and not errors
+                verdict = "builds"
+            else:
+                good = "run=none" in said and errors and all(error in line for line in errors)
+                verdict = f"does not build: {error}"
+            print(f"slip {name}: {verdict if good else 'NOT AS IT MUST BE'}", flush=True)
+            if not good:
+                print(said[-3000:])
+                failed += 1
     return 1 if failed else 0
 
 

@@ -72,7 +72,7 @@ impl<'a> Book<'a> {
     /// The bytes of condition `n`, a part of the book itself.
     pub fn condition(&self, n: u16) -> Option<&'a [u8]>
         ensures value { option_map (λ x. x.now) result ≡ condition_of self.now.bytes.now self.now.count n }
-        ensures place { IfSome result (λ x. x.ptr ≡ (self.now.bytes.ptr.0, self.now.bytes.ptr.1 + (start self.now.bytes.now (n - 2) + 3))) }
+        ensures place { IfSome result (λ x. x.ref_ptr ≡ (self.now.bytes.ref_ptr.0, self.now.bytes.ref_ptr.1 + (start self.now.bytes.now (n - 2) + 3))) }
         ensures formed { IfSome result (λ x. is_some (tree x.now) ≡ true) }
     {
         if n < 2 || n - 2 >= self.count {

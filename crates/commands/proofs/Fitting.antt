@@ -2,7 +2,7 @@
 use Rattle.std.proofs.Common.{◌≡◌, ℕ, ◌<◌, Bool, true, false, cond, eqb, ltb, List, [], ◌∷◌, length, is_some, Some, None, Option, sym, refl, ap, ◌∙◌, subst, arith}
 use Rattle.std.specs.Option.{option_map}
 use Rattle.std.specs.List.{ContainsAt as Has, AllByRecursion as All}
-use Rattle.std.proofs.ByRecursion.{all_has, all_has_itself, All-weaker}
+use Rattle.std.proofs.ByRecursion.{all-has, all_has_itself, All-weaker}
 use Rattle.std.proofs.lemmas.Bool.{ltb-true, lt-ltb}
 use Rattle.command_words.specs.Format.{Kind, kind_of}
 use Rattle.command_words.specs.Format.Kind.{letter}
@@ -88,7 +88,7 @@ module _ {X : Type 0} (F : X → Said) (named : ℕ → Option X) (letters : Lis
   letter_of l true e = holds (l, refl, named_has l (sym (is_mapped F (named l)) ∙ e))
   letter_of l false e = fails (λ p.
       let s : l ≡ p.0 = cc p.1 in
-      apart (sym (all_has (λ k. is_some (named k) ≡ true) letters l known (subst (Has letters) (sym s) p.2)) ∙ sym (is_mapped F (named l)) ∙ e))
+      apart (sym (all-has (λ k. is_some (named k) ≡ true) letters l known (subst (Has letters) (sym s) p.2)) ∙ sym (is_mapped F (named l)) ∙ e))
 
   letter_fits : (v : List ℕ) → Tells (is_some (option_map F (then named (alone v)))) (Fits (letter letters) v)
   letter_fits [] = fails (λ p. let z : ◌≡◌ {A = ℕ} 0 1 = cc p.1 in omega arith)

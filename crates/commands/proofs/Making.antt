@@ -2,7 +2,7 @@
 use Rattle.std.proofs.Common.{◌≡◌, ℕ, true, false, cond, eqb, ◌⊎◌, List, [], ◌∷◌, ◌++◌, is_some, Some, None, Option, unwrap_or, sym, refl, ap, ◌∙◌, subst, inl, inr, ⊎_elim}
 use Rattle.std.specs.Option.{option_map, option_or}
 use Rattle.std.specs.List.{ContainsAt as Has, AllByRecursion as All}
-use Rattle.std.proofs.ByRecursion.{all_has}
+use Rattle.std.proofs.ByRecursion.{all-has}
 use Rattle.std.proofs.lemmas.Bool.{cases_Bool, cond-true, cond-false}
 use Rattle.states.specs.declared.report.Report.{Report}
 use Rattle.grants.specs.declared.Mode.{Mode}
@@ -314,4 +314,4 @@ lacks_nothing fs made m (t, h, n) =
     let p = made_tags fs made m in
     let has = subst (λ (o : Option (List ℕ)). VerbHas o t) (said_look (look 1 fs) (verb_letter (verb_of made) ∷ []) p.0) h in
     let u : has.0 ≡ verb_of made = same_verb (verb_of made) has.0 has.1 in
-    all_has (SaidAt fs) (tags_of (verb_of made)) t p.1 (subst (λ (w : Verb). Has (tags_of w) t) u has.2) n
+    all-has (SaidAt fs) (tags_of (verb_of made)) t p.1 (subst (λ (w : Verb). Has (tags_of w) t) u has.2) n

@@ -2,7 +2,7 @@
 use Rattle.std.proofs.Common.{◌≡◌, ℕ, true, false, eqb, ltb, List, [], ◌∷◌, is_some, Some, None, Option, sym, refl, ap, ◌∙◌, subst, ⊎_elim}
 use Rattle.std.specs.Option.{option_map}
 use Rattle.std.specs.List.{ContainsAt as Has, AllByRecursion as All}
-use Rattle.std.proofs.ByRecursion.{all_has, all_has_itself, All-weaker}
+use Rattle.std.proofs.ByRecursion.{all-has, all_has_itself, All-weaker}
 use Rattle.std.proofs.lemmas.Bool.{cases_Bool, ltb-true, lt-ltb, eqb-true, eqb-false, eq-eqb, and_parts, and_cases, cond-true, cond-false}
 use Rattle.command_words.specs.declared.Verb.{Verb}
 use Rattle.command_words.specs.declared.Verb.TheVariants.{Issue, Amend, Withdraw, Draw, Return}
@@ -71,7 +71,7 @@ any_all [] = tt
 any_all (x ∷ xs) = (any_mine x xs, All-weaker (λ t. any xs t ≡ true) (λ t. any (x ∷ xs) t ≡ true) (λ t e. any_more x t xs e) xs (any_all xs))
 
 pub has_any : (xs : List ℕ) (t : ℕ) → Has xs t → any xs t ≡ true
-has_any xs t h = all_has (λ t. any xs t ≡ true) xs t (any_all xs) h
+has_any xs t h = all-has (λ t. any xs t ≡ true) xs t (any_all xs) h
 
 none_any : (xs : List ℕ) (t : ℕ) → All (λ k. eqb t k ≡ false) xs → any xs t ≡ false
 none_any [] t o = refl

@@ -2,7 +2,7 @@
 use Rattle.std.proofs.Common.{◌≡◌, ℕ, ◌<◌, ◌≤◌, true, false, eqb, ◌⊎◌, List, [], ◌∷◌, Some, None, Option, sym, refl, ap, ◌∙◌, subst, ⊎_elim, append-nil, arith, lit<}
 use Rattle.std.specs.Option.{option_or}
 use Rattle.std.specs.List.{ContainsAt as Has, AllByRecursion as All}
-use Rattle.std.proofs.ByRecursion.{all_has, all_has_itself, All-weaker}
+use Rattle.std.proofs.ByRecursion.{all-has, all_has_itself, All-weaker}
 use Rattle.std.proofs.lemmas.Bool.{cases_Bool, cond-true, cond-false, eqb-true, eq-eqb, ne_eqb, cases_eq}
 use Rattle.command_words.specs.declared.Verb.{Verb}
 use Rattle.command_words.specs.declared.Command.{Command}
@@ -153,7 +153,7 @@ module _ (fs : List Field) (l : Lawful fs) (c : Command) (made : Makes fs c) (a 
   not_there : (t : ℕ) → look t (fields_of c) ≡ None → (o : Option (List ℕ)) → look t fs ≡ o → o ≡ None
   not_there t n None e = refl
   not_there t n (Some v) e =
-      absurd (all_has (λ u. look u (fields_of c) ≡ None → ⊥) (tags_of (verb_of c)) t (tags_in c) (tag_of_verb (verb_of c) fs l verb_there t v e) n)
+      absurd (all-has (λ u. look u (fields_of c) ≡ None → ⊥) (tags_of (verb_of c)) t (tags_in c) (tag_of_verb (verb_of c) fs l verb_there t v e) n)
 
   alike_at : (t : ℕ) (o : Option (List ℕ)) → look t (fields_of c) ≡ o → look t fs ≡ o
   alike_at t None e = not_there t e (look t fs) refl

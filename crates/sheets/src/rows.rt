@@ -37,7 +37,7 @@ impl Sheet {
         ensures is { result ≡ added self.old.used row }
         ensures law { Judged self.old.used row result }
         ensures rows { self.new.rows ≡ (if is_ok result then slice_set self.old.rows self.old.used row else self.old.rows) }
-        ensures used { self.new.used ≡ cond (is_ok result) (self.old.used + 1) self.old.used }
+        ensures used { self.new.used ≡ (if is_ok result then self.old.used + 1 else self.old.used) }
     {
         if self.used >= 64 {
             return Err(Refusal::ConditionsIllFormed.at(0));

@@ -8,12 +8,12 @@ use Rattle.books.proofs.field.check.Goals as goal
 pub loop-at-init : goal.loop-at-init
 loop-at-init c = walk_none c.args.bytes.now
 
-pub returns-in-default : goal.returns-in-default
-returns-in-default c =
-    let bad = walk_bad c.loop-at.invariant c.loop-at-test.true (when_none _ _ c.in-default.ensures) in
+pub returns-in_default : goal.returns-in_default
+returns-in_default c =
+    let bad = walk_bad c.loop-at.invariant c.loop-at-test.true (when_none _ _ c.in_default.ensures) in
     let bs = c.args.bytes.now in
     let is = ap (λ e. Err e) c.at.ensures ∙ sym bad in
-    record { is = is; law = subst (Judged bs) (sym is) (judged bs (λ i. omega (arith, c.type-inv.bytes i))); spelled = spelled }
+    record { is = is; law = subst (Judged bs) (sym is) (judged bs (λ i. omega (arith, c.type_inv.bytes i))); spelled = spelled }
 
 pub loop-at-preserved : goal.loop-at-preserved
 loop-at-preserved c =
@@ -28,4 +28,4 @@ pub returns : goal.returns
 returns c =
     let all = walk_all c.loop-at.invariant c.loop-at-test.false in
     let bs = c.args.bytes.now in
-    record { is = sym all; law = subst (Judged bs) all (judged bs (λ i. omega (arith, c.type-inv.bytes i))); spelled = spelled }
+    record { is = sym all; law = subst (Judged bs) all (judged bs (λ i. omega (arith, c.type_inv.bytes i))); spelled = spelled }

@@ -10,7 +10,7 @@ loop-at-init c = worked_none c.args.bytes.now c.args.state.now
 
 pub unreachable-requires : goal.unreachable-requires
 unreachable-requires c =
-    let none = read_bad c.loop-at.invariant.read _ (take_rest c.args.bytes.now c.loop-at.at) c.loop-at-test.true (sym c.in-default.ensures.is) in
+    let none = read_bad c.loop-at.invariant.read _ (take_rest c.args.bytes.now c.loop-at.at) c.loop-at-test.true (sym c.in_default.ensures.is) in
     let both = sym (ap is_some none) ∙ c.requires in
     let z : ◌≡◌ {A = ℕ} 0 1 = cc in omega arith
 

@@ -6,4 +6,4 @@ window : Window office_hours
 window = record { one = refl; too_early = refl; first = refl; last = refl; too_late = refl; untold = refl }
 
 pub returns : goal.returns
-returns c = record { is = c.hours-field.ensures; window = subst Window (sym c.hours-field.ensures) window }
+returns c = record { is = c.hours_field.ensures; window = subst Window (sym c.hours_field.ensures) window }

@@ -7,21 +7,21 @@ use Rattle.chains.proofs.Gathered.{draw_laws}
 use Rattle.chains.proofs.Sound.{decides_serves}
 use Rattle.chains.proofs.chain.serves.Goals as goal
 
-pub returns-then-leads-to : goal.returns-then-leads-to
-returns-then-leads-to g c =
+pub returns-then-leads_to : goal.returns-then-leads_to
+returns-then-leads_to g c =
     let m = g.L.Language.says c.args.language.now in
-    let both : c.all-true.result ≡ (leads_to m recorded c.args.hook c.args.owner c.args.person 8 c.args.chain.now && execute_true m c.args.chain.now c.args.state.now) =
-    c.all-true.ensures ∙ ap (λ b. b && execute_true m c.args.chain.now c.args.state.now) (sym c.if-leads-to.true ∙ c.leads-to.ensures) in
+    let both : c.all_true.result ≡ (leads_to m recorded c.args.hook c.args.owner c.args.person 8 c.args.chain.now && execute_true m c.args.chain.now c.args.state.now) =
+    c.all_true.ensures ∙ ap (λ b. b && execute_true m c.args.chain.now c.args.state.now) (sym c.if-leads_to.true ∙ c.leads_to.ensures) in
     record {
       decides = λ all holds. subst (λ b. Decides b (Serves m recorded all c.args.hook c.args.owner c.args.person c.args.state.now c.args.chain.now)) (sym both) (decides_serves m recorded all c.args.hook c.args.owner c.args.person c.args.state.now c.args.chain.now holds);
       laws = draw_laws;
     }
 
-pub returns-else-leads-to : goal.returns-else-leads-to
-returns-else-leads-to g c =
+pub returns-else-leads_to : goal.returns-else-leads_to
+returns-else-leads_to g c =
     let m = g.L.Language.says c.args.language.now in
-    let both : c.leads-to.result ≡ (leads_to m recorded c.args.hook c.args.owner c.args.person 8 c.args.chain.now && execute_true m c.args.chain.now c.args.state.now) =
-    c.if-leads-to.false ∙ ap (λ b. b && execute_true m c.args.chain.now c.args.state.now) (sym c.if-leads-to.false ∙ c.leads-to.ensures) in
+    let both : c.leads_to.result ≡ (leads_to m recorded c.args.hook c.args.owner c.args.person 8 c.args.chain.now && execute_true m c.args.chain.now c.args.state.now) =
+    c.if-leads_to.false ∙ ap (λ b. b && execute_true m c.args.chain.now c.args.state.now) (sym c.if-leads_to.false ∙ c.leads_to.ensures) in
     record {
       decides = λ all holds. subst (λ b. Decides b (Serves m recorded all c.args.hook c.args.owner c.args.person c.args.state.now c.args.chain.now)) (sym both) (decides_serves m recorded all c.args.hook c.args.owner c.args.person c.args.state.now c.args.chain.now holds);
       laws = draw_laws;

@@ -11,7 +11,7 @@ use Rattle.commands.proofs.reader.read.Goals as goal
 pub returns : goal.returns
 returns c =
     let bs = c.args.bytes.now in
-    let b : Bytes c.args.bytes.now = All-from_get_or (λ x. x < 256) c.args.bytes.now 0 (λ i h. (c.type-inv.bytes i).fits) in
+    let b : Bytes c.args.bytes.now = All-from_get_or (λ x. x < 256) c.args.bytes.now 0 (λ i h. (c.type_inv.bytes i).fits) in
     let e = c.walk.ensures in
     record {
       is = e;

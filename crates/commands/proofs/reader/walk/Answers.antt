@@ -12,30 +12,30 @@ use Rattle.commands.proofs.Bridge.{Took, took, stuck, next_some}
 use Rattle.commands.proofs.reader.walk.Goals as goal
 
 -- the step that the reader took
-step-taken : (c : goal.After-rest·1) → Took c.loop-rest.invariant.0 c.loop-rest.rest.now (left c.in-ok-step.step)
+step-taken : (c : goal.After-rest-1) → Took c.loop-rest.invariant.0 c.loop-rest.rest.now (left c.in_ok-step.step)
 step-taken c =
     let rest = c.loop-rest.rest.now in
     let at = length c.args.bytes.now - length c.loop-rest.rest.now in
-    let step = left c.in-ok-step.step in
+    let step = left c.in_ok-step.step in
     took c.loop-rest.invariant.0 rest step
     (ok_some (taken (draft_of c.loop-rest.invariant.0) rest) (ill at) step
-    (sym (subst (λ (d : Draft). Ok (left c.in-ok-step.step) ≡ ok_or (taken d c.loop-rest.rest.now) (ill at)) c.loop-rest.invariant.1 c.in-ok-step.ensures)))
+    (sym (subst (λ (d : Draft). Ok (left c.in_ok-step.step) ≡ ok_or (taken d c.loop-rest.rest.now) (ill at)) c.loop-rest.invariant.1 c.in_ok-step.ensures)))
 
-pub returns-in-err-step : goal.returns-in-err-step
-returns-in-err-step c =
-    let p = err_from_is_err_and c.from-residual.result c.from-residual.ensures.1 in
+pub returns-in_err-step : goal.returns-in_err-step
+returns-in_err-step c =
+    let p = err_from_is_err_and c.from_residual.result c.from_residual.ensures.1 in
     let before = c.loop-rest.invariant.0 in
     let rest = c.loop-rest.rest.now in
     let at = length c.args.bytes.now - length c.loop-rest.rest.now in
-    let e = err_none (taken (draft_of before) rest) (ill at) c.in-err-step.field-0.0
-    (sym (subst (λ (d : Draft). Err c.in-err-step.field-0.0 ≡ ok_or (taken d c.loop-rest.rest.now) (ill at)) c.loop-rest.invariant.1 c.in-err-step.ensures)) in
+    let e = err_none (taken (draft_of before) rest) (ill at) c.in_err-step.field-0.0
+    (sym (subst (λ (d : Draft). Err c.in_err-step.field-0.0 ≡ ok_or (taken d c.loop-rest.rest.now) (ill at)) c.loop-rest.invariant.1 c.in_err-step.ensures)) in
     let h : 0 < length c.loop-rest.rest.now = search rules in
     p.1 ∙ ap (λ (f : Fault). Err f) (p.2 ∙ sym e.1) ∙ sym (walk_none before at rest h (stuck before rest e.0)) ∙ c.loop-rest.invariant.2
 
 pub loop-rest-smaller : goal.loop-rest-smaller
 loop-rest-smaller c =
     let t = step-taken c in
-    let s = cut_stands c.loop-rest.rest.now (t.field, c.in-ok-step.step.rest.now) t.cut_off_bytes in
+    let s = cut_stands c.loop-rest.rest.now (t.field, c.in_ok-step.step.rest.now) t.cut_off_bytes in
     omega (arith, simp length-append at (ap length s.is))
 
 pub loop-rest-preserved : goal.loop-rest-preserved
@@ -45,15 +45,15 @@ loop-rest-preserved c =
     let before = c.loop-rest.invariant.0 in
     let n = length c.args.bytes.now in
     let here = length c.loop-rest.rest.now in
-    let there = length c.in-ok-step.step.rest.now in
-    let s = cut_stands c.loop-rest.rest.now (f, c.in-ok-step.step.rest.now) t.cut_off_bytes in
-    let l : length c.loop-rest.rest.now ≡ 3 + (length f.1 + length c.in-ok-step.step.rest.now) = ap length s.is ∙ simp length-append (omega arith) in
+    let there = length c.in_ok-step.step.rest.now in
+    let s = cut_stands c.loop-rest.rest.now (f, c.in_ok-step.step.rest.now) t.cut_off_bytes in
+    let l : length c.loop-rest.rest.now ≡ 3 + (length f.1 + length c.in_ok-step.step.rest.now) = ap length s.is ∙ simp length-append (omega arith) in
     let m : length c.loop-rest.rest.now ≤ length c.args.bytes.now = c.loop-rest.invariant.3 in
-    let o : (length c.args.bytes.now - length c.loop-rest.rest.now) + (3 + length f.1) ≡ length c.args.bytes.now - length c.in-ok-step.step.rest.now = omega arith in (
+    let o : (length c.args.bytes.now - length c.loop-rest.rest.now) + (3 + length f.1) ≡ length c.args.bytes.now - length c.in_ok-step.step.rest.now = omega arith in (
       f ∷ before,
       t.draft,
-      ap (λ k. walk 0 (f ∷ before) k c.in-ok-step.step.rest.now) (sym o)
-          ∙ sym (walk_some before (n - here) c.loop-rest.rest.now f c.in-ok-step.step.rest.now s (next_some before c.loop-rest.rest.now f c.in-ok-step.step.rest.now t.cut_off_bytes t.kept))
+      ap (λ k. walk 0 (f ∷ before) k c.in_ok-step.step.rest.now) (sym o)
+          ∙ sym (walk_some before (n - here) c.loop-rest.rest.now f c.in_ok-step.step.rest.now s (next_some before c.loop-rest.rest.now f c.in_ok-step.step.rest.now t.cut_off_bytes t.kept))
           ∙ c.loop-rest.invariant.2,
       omega arith,
     )

@@ -23,12 +23,12 @@ returns-then-allowed-net-eq0 t c =
       knows = c.requires.knows;
     }
 
-pub returns-then-is-known : goal.returns-then-is-known
-returns-then-is-known t c =
+pub returns-then-is_known : goal.returns-then-is_known
+returns-then-is_known t c =
     let n = c.args.net.now in
     let pos : 0 < length c.args.memory.now = omega (arith, c.if-path-eq0.false, c.requires.levels) in
     record {
-      found = subst (Never n c.args.allowed c.args.at) c.requires.levels (c.if-is-known.ensures refl n (length c.args.memory.now) (knows_head n c.args.memory.now _ pos c.requires.knows));
+      found = subst (Never n c.args.allowed c.args.at) c.requires.levels (c.if-is_known.ensures refl n (length c.args.memory.now) (knows_head n c.args.memory.now _ pos c.requires.knows));
       knows = c.requires.knows;
     }
 
@@ -41,11 +41,11 @@ by_person n p from a d i given lt h =
 
 pub loop-i-init : goal.loop-i-init
 loop-i-init t c = (
-  none_skip c.args.net.now c.args.allowed c.args.at (length c.args.path.now) (bit_and (bit_and c.args.allowed c.args.from) (get_or c.args.net.now.near (length c.args.path.now - 1) 0)) 0 c.next-in-i.result
-      (covers c.args.net.now c.args.allowed c.args.at (length c.args.path.now) c.args.from c.requires.from c.requires.ready.near c.requires.inside c.requires.short) (λ j js lt e s. omega arith) c.next-in-i.ensures.skips,
+  none_skip c.args.net.now c.args.allowed c.args.at (length c.args.path.now) (bit_and (bit_and c.args.allowed c.args.from) (get_or c.args.net.now.near (length c.args.path.now - 1) 0)) 0 c.next_in-i.result
+      (covers c.args.net.now c.args.allowed c.args.at (length c.args.path.now) c.args.from c.requires.from c.requires.ready.near c.requires.inside c.requires.short) (λ j js lt e s. omega arith) c.next_in-i.ensures.skips,
   c.requires.knows,
-  c.next-in-i.ensures.most,
-  c.next-in-i.ensures.found,
+  c.next_in-i.ensures.most,
+  c.next_in-i.ensures.found,
 )
 
 pub walk-requires : goal.walk-requires
@@ -113,12 +113,12 @@ loop-i-preserved t c =
     let past : NoneBelow n a p (length path) (i + 1) =
     none_more n a p (length path) i c.loop-i.invariant.0
     (λ js e s. subst (λ s. Never n s (get_or n.taker i 0) (length (take (length path - 1) (drop 1 path)))) c.meet-narrow.ensures c.if-walk.ensures.found js (omega (arith, e, length-take (length path - 1) (drop 1 path), length-drop 1 path)) s.3) in
-    let on = none_skip n a p (length path) (bit_and (bit_and a c.args.from) (get_or n.near (length c.args.path.now - 1) 0)) (i + 1) c.next-after-i.result
-    (λ j js e s. covers n a p (length c.args.path.now) c.args.from c.requires.from c.requires.ready.near c.requires.inside c.requires.short j js (e ∙ c.loop-i.auto.path) s) past c.next-after-i.ensures.skips in (
+    let on = none_skip n a p (length path) (bit_and (bit_and a c.args.from) (get_or n.near (length c.args.path.now - 1) 0)) (i + 1) c.next_after-i.result
+    (λ j js e s. covers n a p (length c.args.path.now) c.args.from c.requires.from c.requires.ready.near c.requires.inside c.requires.short j js (e ∙ c.loop-i.auto.path) s) past c.next_after-i.ensures.skips in (
       λ j js lt e s. on j js lt (e ∙ put_length path c.walk.new.path some long) s,
       knows_put n memo c.walk.new.memory pos left c.loop-i.invariant.1 c.if-walk.ensures.knows,
-      c.next-after-i.ensures.most,
-      c.next-after-i.ensures.found,
+      c.next_after-i.ensures.most,
+      c.next_after-i.ensures.found,
     )
 
 pub returns : goal.returns
@@ -136,5 +136,5 @@ returns t c =
           (λ failed. c.note.ensures n (length c.loop-i.memory) failed (subst (Never n c.args.allowed c.args.at) same never));
     }
 
-pub overflow-cast-path : goal.overflow-cast-path
-overflow-cast-path t c = omega (arith, c.loop-i-test.true, c.args.net.now.within)
+pub overflow_cast-path : goal.overflow_cast-path
+overflow_cast-path t c = omega (arith, c.loop-i-test.true, c.args.net.now.within)

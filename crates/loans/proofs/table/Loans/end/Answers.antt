@@ -5,16 +5,10 @@ use Rattle.loans.specs.Hooks.{hook_of, state_by, loans_in}
 use Rattle.loans.proofs.Changes.{state_at, ended}
 use Rattle.loans.proofs.table.Loans.end.Goals as goal
 
-pub invariant-of-self : goal.invariant-of-self
-invariant-of-self c =
+pub invariant_of-self : goal.invariant_of-self
+invariant_of-self c =
     let ls = c.args.self.now in
-    let e = c.remove.ensures in (
-      c.remove.auto.rows ∙ ls.sized,
-      (
-        omega (arith, e.within, ls.within, ls.sized),
-        (e.rises ls.rises, (subst (AllBelow hook_of 32) (sym e.after) (below_without hook_of 32 c.args.hook (loans_in ls) ls.below), tt)),
-      ),
-    )
+    let e = c.remove.ensures in record { sized = c.remove.auto.rows ∙ ls.sized; within = omega (arith, e.within, ls.within, ls.sized); rises = e.rises ls.rises; below = subst (AllBelow hook_of 32) (sym e.after) (below_without hook_of 32 c.args.hook (loans_in ls) ls.below) }
 
 pub returns : goal.returns
 returns c = λ k. ap (λ xs. state_at xs k) c.remove.ensures.after ∙ ended c.args.hook (loans_in c.args.self.now) c.args.self.now.rises k

@@ -8,34 +8,25 @@ use Rattle.loans.specs.Hooks.{hook_of, loans_in, went_out}
 use Rattle.loans.proofs.Changes.{state_at, handed, unmoved}
 use Rattle.loans.proofs.table.Loans.hand_out.Goals as goal
 
-pub invariant-of-self : goal.invariant-of-self
-invariant-of-self c =
+pub invariant_of-self : goal.invariant_of-self
+invariant_of-self c =
     let ls = c.args.self.now in
     let i = c.in-Some.i in
-    let new = c.go-out.new.self in
+    let new = c.go_out.new.self in
     let lt = c.in-Some.ensures.within in
     let made = take-set-lt ls.count ls.rows i new lt in
-    let number = ap (λ (l : Loan). l.hook) (c.go-out.ensures ∙ ap went_out (sym (get_or-take ls.count ls.rows i _ lt))) in (
-      length-set ls.rows i new ∙ ls.sized,
-      (
-        ls.within,
-        (
-          subst (Rises hook_of) (sym made) (rises_set hook_of 0 i new _ (loans_in ls) number ∙ ls.rises),
-          (subst (AllBelow hook_of 32) (sym made) (below_set hook_of 32 i new _ (loans_in ls) number ∙ ls.below), tt),
-        ),
-      ),
-    )
+    let number = ap (λ (l : Loan). l.hook) (c.go_out.ensures ∙ ap went_out (sym (get_or-take ls.count ls.rows i _ lt))) in record { sized = length-set ls.rows i new ∙ ls.sized; within = ls.within; rises = subst (Rises hook_of) (sym made) (rises_set hook_of 0 i new _ (loans_in ls) number ∙ ls.rises); below = subst (AllBelow hook_of 32) (sym made) (below_set hook_of 32 i new _ (loans_in ls) number ∙ ls.below) }
 
 pub returns-in-Some : goal.returns-in-Some
 returns-in-Some c =
     let ls = c.args.self.now in
     let i = c.in-Some.i in
-    let new = c.go-out.new.self in
+    let new = c.go_out.new.self in
     let lt = c.in-Some.ensures.within in
     let is = sym c.place.ensures.is ∙ c.in-Some.is in
     λ k.
     ap (λ xs. state_at xs k) (take-set-lt ls.count ls.rows i new lt)
-    ∙ handed c.args.hook i _ (loans_in ls) is new (c.go-out.ensures ∙ ap went_out (sym (get_or-take ls.count ls.rows i _ lt))) k
+    ∙ handed c.args.hook i _ (loans_in ls) is new (c.go_out.ensures ∙ ap went_out (sym (get_or-take ls.count ls.rows i _ lt))) k
 
-pub returns-in-default : goal.returns-in-default
-returns-in-default c = unmoved c.args.hook (loans_in c.args.self.now) (sym c.place.ensures.is ∙ c.in-default.is)
+pub returns-in_default : goal.returns-in_default
+returns-in_default c = unmoved c.args.hook (loans_in c.args.self.now) (sym c.place.ensures.is ∙ c.in_default.is)

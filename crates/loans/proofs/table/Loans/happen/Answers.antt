@@ -29,7 +29,7 @@ returns-in-In c =
     let ls = c.args.self.now in
     let h = c.args.hook in
     let event = c.args.event in
-    let j = judgement ls h event _ _ _ _ c.state.ensures.is c.judge.ensures c.in-ok-judge.was c.in-In.is in
+    let j = judgement ls h event _ _ _ _ c.state.ensures.is c.judge.ensures c.in_ok-judge.was c.in-In.is in
     record {
       is = sym (ap answered j);
       leaves = leaves ls c.end.new.self h event _ j c.end.ensures;
@@ -42,7 +42,7 @@ returns-in-Promised c =
     let ls = c.args.self.now in
     let h = c.args.hook in
     let event = c.args.event in
-    let j = judgement ls h event _ _ _ _ c.state.ensures.is c.judge.ensures c.in-ok-judge.was c.in-Promised.is in
+    let j = judgement ls h event _ _ _ _ c.state.ensures.is c.judge.ensures c.in_ok-judge.was c.in-Promised.is in
     record {
       is = sym (ap answered j);
       leaves = leaves ls c.promise.new.self h event _ j c.promise.ensures;
@@ -55,22 +55,22 @@ returns-in-Out c =
     let ls = c.args.self.now in
     let h = c.args.hook in
     let event = c.args.event in
-    let j = judgement ls h event _ _ _ _ c.state.ensures.is c.judge.ensures c.in-ok-judge.was c.in-Out.is in
-    let only : Only ls h Out c.hand-out.new.self = λ k. c.hand-out.ensures k ∙ ap (λ s. cond (eqb h k) s (state_of ls k)) (out_from h (state_of ls h) event j) in
+    let j = judgement ls h event _ _ _ _ c.state.ensures.is c.judge.ensures c.in_ok-judge.was c.in-Out.is in
+    let only : Only ls h Out c.hand_out.new.self = λ k. c.hand_out.ensures k ∙ ap (λ s. cond (eqb h k) s (state_of ls k)) (out_from h (state_of ls h) event j) in
     record {
       is = sym (ap answered j);
-      leaves = leaves ls c.hand-out.new.self h event _ j only;
+      leaves = leaves ls c.hand_out.new.self h event _ j only;
       allowed = λ _. refl;
-      law = led ls c.hand-out.new.self h event _ j only;
+      law = led ls c.hand_out.new.self h event _ j only;
     }
 
-pub returns-in-err-judge : goal.returns-in-err-judge
-returns-in-err-judge c =
+pub returns-in_err-judge : goal.returns-in_err-judge
+returns-in_err-judge c =
     let ls = c.args.self.now in
     let h = c.args.hook in
     let event = c.args.event in
-    let p = err_from_is_err_and c.from-residual.result c.from-residual.ensures.1 in
-    let j : judged h (state_of ls h) event ≡ Err c.in-err-judge.field-0.0 = ap (λ x. judged h x event) (sym c.state.ensures.is) ∙ sym c.in-err-judge.ensures in
+    let p = err_from_is_err_and c.from_residual.result c.from_residual.ensures.1 in
+    let j : judged h (state_of ls h) event ≡ Err c.in_err-judge.field-0.0 = ap (λ x. judged h x event) (sym c.state.ensures.is) ∙ sym c.in_err-judge.ensures in
     rw (p.1, p.2)
     record {
       is = sym (ap answered j);

@@ -18,18 +18,12 @@ is_put ls loan size r after long lt free is e =
     let old = loans_in ls in
     e ∙ ap (after_insertion hook_of loan old) (is ∙ ap (λ n. insertion hook_of loan n old) long ∙ added loan old ls.rises ls.below lt free)
 
-pub invariant-of-self : goal.invariant-of-self
-invariant-of-self c =
+pub invariant_of-self : goal.invariant_of-self
+invariant_of-self c =
     let ls = c.args.self.now in
     let loan : Loan = record { hook = c.args.hook; lent = Promised c.args.person } in
     let e = c.insert.ensures in
-    let made = is_put ls loan _ _ _ ls.sized c.requires.real c.requires.free e.is e.after in (
-      c.insert.auto.rows ∙ ls.sized,
-      (
-        omega (arith, e.within, ls.within, ls.sized),
-        (e.rises ls.rises, (subst (AllBelow hook_of 32) (sym made) (below_put hook_of 32 loan (loans_in ls) ls.below c.requires.real), tt)),
-      ),
-    )
+    let made = is_put ls loan _ _ _ ls.sized c.requires.real c.requires.free e.is e.after in record { sized = c.insert.auto.rows ∙ ls.sized; within = omega (arith, e.within, ls.within, ls.sized); rises = e.rises ls.rises; below = subst (AllBelow hook_of 32) (sym made) (below_put hook_of 32 loan (loans_in ls) ls.below c.requires.real) }
 
 pub returns : goal.returns
 returns c =

@@ -19,7 +19,7 @@ returns c =
       near = c.layers.result;
       count = l.count;
       target = c.args.target;
-      last = c.places-to-last.result;
+      last = c.places_to-last.result;
       base = c.args.base;
       within = l.within;
     } in
@@ -27,8 +27,8 @@ returns c =
       tied = record { count = refl; giver = refl; taker = refl; target = refl; keep = p.narrowed };
       base = refl;
       ready = record {
-        ends = λ j lt e. c.places-to-last.ensures j lt ∙ eq-eqb _ _ e;
+        ends = λ j lt e. c.places_to-last.ensures j lt ∙ eq-eqb _ _ e;
         onward = on;
-        near = near_from n on c.places-to-last.result c.layers.ensures room c.places-to-last.ensures;
+        near = near_from n on c.places_to-last.result c.layers.ensures room c.places_to-last.ensures;
       };
     }
