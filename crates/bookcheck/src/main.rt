@@ -2,6 +2,7 @@
 use anyhow::anyhow;
 use files::read_front;
 use std::env;
+use std::process::ExitCode;
 use timetables::print_book;
 
 fn run(rt: &HostRuntime) -> anyhow::Result<()> {
@@ -12,22 +13,19 @@ fn run(rt: &HostRuntime) -> anyhow::Result<()> {
     };
     let bytes = match read_front(rt, path.as_str()) {
         Ok(bytes) => bytes,
-        Err(why) => {
-            let message = format!(in rt.alloc(); "cannot read {path}: {why}")?;
-            return Err(message.into());
-        }
+        Err(why) => return Err(anyhow!("cannot read {path}: {why}")),
     };
     let text = print_book(rt.alloc(), bytes.as_slice())?;
     rt.print(text.as_str())?;
     Ok(())
 }
 
-fn main(rt: HostRuntime) -> anyhow::Result<()> {
+fn main(rt: HostRuntime) -> ExitCode {
     match run(&rt) {
-        Ok(()) => Ok(()),
+        Ok(()) => ExitCode::SUCCESS,
         Err(why) => {
-            eprintln!(rt; "bookcheck: {why}")?;
-            Err(why)
+            let _ = eprintln!(rt; "bookcheck: {why}");
+            ExitCode::FAILURE
         }
     }
 }

@@ -86,7 +86,7 @@ fn add_course<L: Language>(
     language: &L,
     n: u16,
 ) -> Result<(), AllocError>
-    ensures { OnOk result (string_bytes text.new ≡ string_bytes text.old ++ course (truths (says language.now) n) 1440) }
+    ensures { OnOk result (string_bytes text.new ≡ string_bytes text.old ++ course (truths (L.says language.now) n) 1440) }
 {
     let mut before = None;
     for minute in 0..DAY {
@@ -112,7 +112,7 @@ fn add_line<L: Language>(
     language: &L,
     n: u16,
 ) -> Result<(), AllocError>
-    ensures { OnOk result (string_bytes text.new ≡ string_bytes text.old ++ line (says language.now) n) }
+    ensures { OnOk result (string_bytes text.new ≡ string_bytes text.old ++ line (L.says language.now) n) }
 {
     let head = label(heap, n)?;
     text.push_str(head.as_str())?;
@@ -130,7 +130,7 @@ fn heading(heap: Global, own: u16) -> Result<String, AllocError>
 
 /// The whole timetable of a language: how many conditions of its own it has, and a line for each.
 fn table<L: Language>(heap: Global, language: &L) -> Result<String, AllocError>
-    ensures { IfOk result (λ s. string_bytes s ≡ table_of (size language.now) (says language.now)) }
+    ensures { IfOk result (λ s. string_bytes s ≡ table_of (L.size language.now) (L.says language.now)) }
 {
     let own = language.count().saturating_sub(2);
     let mut text = heading(heap, own)?;

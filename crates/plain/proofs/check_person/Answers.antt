@@ -7,6 +7,6 @@ use Rattle.plain.proofs.check_person.Goals as goal
 pub returns : goal.returns
 returns c =
     record {
-      is = c.refuse-if.ensures ∙ ap (λ b. passed (check b NotAPerson c.args.tag ∷ [])) c.is-nobody.ensures;
+      is = c.refuse_if.ensures ∙ ap (λ b. passed (check b NotAPerson c.args.tag ∷ [])) c.is_nobody.ensures;
       laws = record_laws;
     }

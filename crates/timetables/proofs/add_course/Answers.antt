@@ -13,8 +13,8 @@ loop-minute-preserved g c =
     let n = c.args.n in
     let m = c.loop-minute.minute in
     let f : ℕ → Truth = truths says n in
-    let said : c.truth-truth.result ≡ f m = c.truth-truth.ensures ∙ ap (says n) c.at-minute.ensures in
-    let more : string_bytes c.in-ok-more.more ≡ piece_of (before f m) m (f m) = c.in-ok-more.ensures ∙ (λ i. piece_of (c.loop-minute.invariant.0 i) m (said i)) in (
+    let said : c.truth-truth.result ≡ f m = c.truth-truth.ensures ∙ ap (says n) c.at_minute.ensures in
+    let more : string_bytes c.in_ok-more.more ≡ piece_of (before f m) m (f m) = c.in_ok-more.ensures ∙ (λ i. piece_of (c.loop-minute.invariant.0 i) m (said i)) in (
       before_more f m c.truth-truth.result said,
-      c.in-ok-push-str.ensures.bytes ∙ course_more f (string_bytes c.args.text.now) (string_bytes c.loop-minute.text) _ m c.loop-minute.invariant.1 (c.as-str.ensures.value ∙ more),
+      c.in_ok-push_str.ensures.bytes ∙ course_more f (string_bytes c.args.text.now) (string_bytes c.loop-minute.text) _ m c.loop-minute.invariant.1 (c.as_str.ensures.value ∙ more),
     )

@@ -21,4 +21,4 @@ worked = record {
 }
 
 pub returns : goal.returns
-returns c = record { is = c.three-conditions.ensures; cases = subst Worked (sym c.three-conditions.ensures) worked }
+returns c = record { is = c.three_conditions.ensures; cases = subst Worked (sym c.three_conditions.ensures) worked }

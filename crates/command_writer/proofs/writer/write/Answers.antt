@@ -10,7 +10,7 @@ pub returns : goal.returns
 returns c =
     let w = wire c.args.command in
     let l : length (wire c.args.command) ≤ 64 = wire_short c.args.command in
-    let e = c.pen-down-pen.ensures ∙ penned_spells clean (fields_of c.args.command) ∙ puts_clean w l in
-    let a : c.pen-down-pen.result.at ≡ length (wire c.args.command) = ap (λ (p : Pen). p.at) e in
+    let e = c.pen_down-pen.ensures ∙ penned_spells clean (fields_of c.args.command) ∙ puts_clean w l in
+    let a : c.pen_down-pen.result.at ≡ length (wire c.args.command) = ap (λ (p : Pen). p.at) e in
     let b = ap (λ (p : Pen). p.bytes) e in
-    record { long = a; within = omega arith; bytes = b; front = ap (take c.pen-down-pen.result.at) b ∙ take_at w _ c.pen-down-pen.result.at (sym a); size = ap length b ∙ filled_long w l }
+    record { long = a; within = omega arith; bytes = b; front = ap (take c.pen_down-pen.result.at) b ∙ take_at w _ c.pen_down-pen.result.at (sym a); size = ap length b ∙ filled_long w l }

@@ -20,6 +20,6 @@ loop-i-preserved c =
       length-set c.loop-i.row i _ ∙ inv.2,
       entry_more (λ k v. v ≡ (at r k).grantor) i c.loop-i.giver _ 0 (omega (arith, lt, c.requires, inv.0)) (ap (λ (g : Grant). g.grantor) same) inv.3,
       entry_more (λ k v. v ≡ (at r k).grantee) i c.loop-i.taker _ 0 (omega (arith, lt, c.requires, inv.1)) (ap (λ (g : Grant). g.grantee) same) inv.4,
-      entry_more (λ k v. (j : ℕ) → j < 96 → member v j ≡ member (get_or c.args.columns.now j 0) k) i c.loop-i.row c.row-of.result 0 (omega (arith, lt, c.requires, inv.2))
-          (λ j low. c.row-of.ensures j (omega arith)) inv.5,
+      entry_more (λ k v. (j : ℕ) → j < 96 → member v j ≡ member (get_or c.args.columns.now j 0) k) i c.loop-i.row c.row_of.result 0 (omega (arith, lt, c.requires, inv.2))
+          (λ j low. c.row_of.ensures j (omega arith)) inv.5,
     )

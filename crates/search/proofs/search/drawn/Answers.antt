@@ -5,19 +5,19 @@ use Rattle.chains.proofs.Sound.{decides_person}
 use Rattle.search.proofs.Found.{drawn_answered, none_for}
 use Rattle.search.proofs.search.drawn.Goals as goal
 
-pub returns-then-not-is-person : goal.returns-then-not-is-person
-returns-then-not-is-person g c =
+pub returns-then-not-is_person : goal.returns-then-not-is_person
+returns-then-not-is_person g c =
     none_for (g.L.Language.says c.args.language.now) c.args.grants.now c.args.hook c.args.owner c.args.person c.args.state.now
-    (λ person. both_ways (is_person c.args.owner) (sym c.is-person.ensures ∙ c.if-not-is-person.true) ((decides_person c.args.owner).1 person))
+    (λ person. both_ways (is_person c.args.owner) (sym c.is_person.ensures ∙ c.if-not-is_person.true) ((decides_person c.args.owner).1 person))
 
 pub returns-in-Some : goal.returns-in-Some
 returns-in-Some g c =
     let x =
-    drawn_answered (g.L.Language.says c.args.language.now) c.args.grants.now c.plan-of-plan.result.links c.passing-allowed.result c.args.hook c.args.owner c.args.person
-    c.args.state.now c.plan-of-plan.ensures c.passing-allowed.ensures (sym c.is-person.ensures ∙ c.if-not-is-person.false) c.requires (Some c.in-Some.route) c.in-Some.ensures in
-    (x.0, x.1, c.numbers-of.ensures ∙ x.2)
+    drawn_answered (g.L.Language.says c.args.language.now) c.args.grants.now c.plan_of-plan.result.links c.passing-allowed.result c.args.hook c.args.owner c.args.person
+    c.args.state.now c.plan_of-plan.ensures c.passing-allowed.ensures (sym c.is_person.ensures ∙ c.if-not-is_person.false) c.requires (Some c.in-Some.route) c.in-Some.ensures in
+    (x.0, x.1, c.numbers_of.ensures ∙ x.2)
 
 pub returns-in-None : goal.returns-in-None
 returns-in-None g c =
-    drawn_answered (g.L.Language.says c.args.language.now) c.args.grants.now c.plan-of-plan.result.links c.passing-allowed.result c.args.hook c.args.owner c.args.person
-    c.args.state.now c.plan-of-plan.ensures c.passing-allowed.ensures (sym c.is-person.ensures ∙ c.if-not-is-person.false) c.requires None c.in-None.ensures
+    drawn_answered (g.L.Language.says c.args.language.now) c.args.grants.now c.plan_of-plan.result.links c.passing-allowed.result c.args.hook c.args.owner c.args.person
+    c.args.state.now c.plan_of-plan.ensures c.passing-allowed.ensures (sym c.is_person.ensures ∙ c.if-not-is_person.false) c.requires None c.in-None.ensures

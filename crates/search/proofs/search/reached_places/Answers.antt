@@ -8,7 +8,7 @@ use Rattle.search.proofs.Marked.{decided_none, decided_in, decided_out, rests_mo
 use Rattle.search.proofs.Found.{reached_at}
 use Rattle.search.proofs.Prefix.{usable_enough, usable}
 use Rattle.search.proofs.search.reached_places.Goals as goal
-use Rattle.search.proofs.search.reached_places.Goals.{then-is-reached, else-is-reached}
+use Rattle.search.proofs.search.reached_places.Goals.{then-is_reached, else-is_reached}
 
 pub loop-i-init : goal.loop-i-init
 loop-i-init c = (
@@ -26,16 +26,16 @@ loop-i-preserved c =
     let i = c.loop-i.i in
     let lt = c.loop-i-test.true in
     let low : i < 96 = omega (arith, lt, c.requires.few) in
-    let here : Decides c.is-reached.result (R i) =
-    usable_enough r l columns owners c.requires.linked c.requires.hooks c.loop-i.resting c.loop-i.invariant.1 i lt c.is-reached.result
-    (reached_at l r i _ owners c.is-reached.result c.owner-of.result c.without-usable.result _ lt c.owner-of.ensures c.without-usable.ensures c.is-reached.ensures) in
-    elim c.if-is-reached.branch [
-      | then-is-reached w ↦ (
-        subst (λ s. DecidedTo R s (i + 1)) (sym w.set-is) (decided_in R c.loop-i.set i low c.loop-i.invariant.0 (here.0 w.if-is-reached.true)),
+    let here : Decides c.is_reached.result (R i) =
+    usable_enough r l columns owners c.requires.linked c.requires.hooks c.loop-i.resting c.loop-i.invariant.1 i lt c.is_reached.result
+    (reached_at l r i _ owners c.is_reached.result c.owner_of.result c.without-usable.result _ lt c.owner_of.ensures c.without-usable.ensures c.is_reached.ensures) in
+    elim c.if-is_reached.branch [
+      | then-is_reached w ↦ (
+        subst (λ s. DecidedTo R s (i + 1)) (sym w.set-is) (decided_in R c.loop-i.set i low c.loop-i.invariant.0 (here.0 w.if-is_reached.true)),
         subst (λ s. (k : ℕ) → member s k ≡ true → R k → ⊥) (sym w.resting-is) c.loop-i.invariant.1,
       )
-      | else-is-reached w ↦
-          let rests : R i → ⊥ = λ x. both_ways c.is-reached.result w.if-is-reached.false (here.1 x) in (
+      | else-is_reached w ↦
+          let rests : R i → ⊥ = λ x. both_ways c.is_reached.result w.if-is_reached.false (here.1 x) in (
             subst (λ s. DecidedTo R s (i + 1)) (sym w.set-is) (decided_out R c.loop-i.set i c.loop-i.invariant.0 rests),
             subst (λ s. (k : ℕ) → member s k ≡ true → R k → ⊥) (sym w.resting-is) (rests_more R c.loop-i.resting i low c.loop-i.invariant.1 rests),
           )

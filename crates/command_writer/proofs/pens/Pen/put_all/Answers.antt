@@ -6,7 +6,7 @@ use Rattle.command_writer.proofs.pens.Pen.put_all.Goals as goal
 pub loop-b-preserved : goal.loop-b-preserved
 loop-b-preserved c =
     let h : c.loop-b.b-index < length c.args.bytes.now = omega arith in
-    puts_more c.args.self.now c.loop-b.self c.put-one.new.self c.args.bytes.now c.loop-b.b-index h c.loop-b.invariant c.put-one.ensures
+    puts_more c.args.self.now c.loop-b.self c.put_one.new.self c.args.bytes.now c.loop-b.b-index h c.loop-b.invariant c.put_one.ensures
 
 pub returns : goal.returns
 returns c =
