@@ -1,4 +1,6 @@
 //! bookcheck FILE: prints how many conditions a book has, and for each its truth through a day.
+#![tactic(auto)]
+
 use anyhow::anyhow;
 use files::read_front;
 use std::env;

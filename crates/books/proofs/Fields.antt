@@ -1,7 +1,7 @@
 -- How a book is checked field by field, and that the tests are the rules.
-use Rattle.std.proofs.Common.{◌≡◌, ℕ, zero, suc, ◌+◌, ◌-◌, ◌*◌, ◌<◌, ◌≤◌, Bool, true, false, cond, ◌&&◌, ltb, leb, ◌⊎◌, List, [], ◌∷◌, length, get_or, take, drop, is_some, Some, None, Ok, Err, Option, Result, sym, refl, ap, ◌∙◌, subst, inl, inr, ⊎_elim, add-one, arith, length-drop, length-take, get_or-drop, get_or-take, drop-drop}
+use Rattle.std.proofs.Common.{◌≡◌, ℕ, zero, suc, ◌+◌, ◌-◌, ◌*◌, ◌<◌, ◌≤◌, Bool, true, false, cond, ◌&&◌, ltb, leb, ◌⊎◌, List, length, get_or, take, drop, is_some, Some, None, Ok, Err, Option, Result, sym, refl, ap, ◌∙◌, subst, inl, inr, ⊎_elim, add-one, arith, length-drop, length-take, get_or-drop, get_or-take, drop-drop}
 use Rattle.std.proofs.lemmas.List.{get_or_past}
-use Rattle.std.proofs.lemmas.Bool.{cases_lt, cond-true, cond-false, and_from, and_left, and_right, and_parts, lt-leb, le-leb, lt-ltb, le-ltb, leb-true, leb-false, ltb-true, cond_both, eqb-true, eq-eqb, ne_eqb}
+use Rattle.std.proofs.lemmas.Bool.{cases_lt, cond-true, cond-false, and_from, and_parts, lt-leb, le-leb, lt-ltb, leb-true, leb-false, ltb-true, cond_both, eqb-true, eq-eqb, ne_eqb}
 use Rattle.std.specs.Result.{result_unwrap_or}
 use Rattle.faults.specs.declared.Fault.{Fault}
 use Rattle.faults.specs.declared.Refusal.TheVariants.{ConditionsIllFormed}
@@ -9,7 +9,7 @@ use Rattle.faults.specs.Faults.{fault}
 use Rattle.books.specs.Items.{when}
 use Rattle.books.specs.Trees.{Tree}
 use Rattle.books.specs.Readings.{tree, truth_of, Bytes}
-use Rattle.books.specs.Books.{long, body, condition_bytes, field_ok, start, good_at, checked_from, checked, Formed, Placed, Field, Rules, Judged, Meant}
+use Rattle.books.specs.Books.{long, body, condition_bytes, field_ok, start, good_at, checked_from, checked, Formed, Field, Rules, Judged, Meant}
 use Rattle.books.proofs.Spelling.{found, spelled}
 
 start_ge : (bs : List ℕ) (k : ℕ) → k ≤ start bs k

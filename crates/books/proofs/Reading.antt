@@ -1,5 +1,5 @@
 -- How the tree of a condition's bytes is found item by item, and its value beside it. Assumes nothing.
-use Rattle.std.proofs.Common.{◌≡◌, ℕ, zero, suc, ◌+◌, ◌-◌, ◌<◌, ◌≤◌, Bool, true, false, eqb, ◌≢◌, List, [], ◌∷◌, length, get_or, drop, set, is_some, Some, None, Option, sym, refl, ap, ◌∙◌, subst, arith, length-drop, length-set, get_or-set_other, get_or-set_same, drop-drop}
+use Rattle.std.proofs.Common.{◌≡◌, ℕ, zero, suc, ◌+◌, ◌-◌, ◌<◌, ◌≤◌, Bool, true, false, eqb, List, [], ◌∷◌, length, get_or, drop, set, is_some, Some, None, Option, sym, refl, ap, ◌∙◌, subst, arith, length-drop, length-set, get_or-set_other, get_or-set_same, drop-drop}
 use Rattle.std.proofs.lemmas.List.{drop_all}
 use Rattle.std.proofs.lemmas.Bool.{ne_eqb}
 use Rattle.books.specs.declared.item.Item.{Item}
@@ -7,9 +7,9 @@ use Rattle.books.specs.declared.item.Item.TheVariants.{Range, Group, And, Or, No
 use Rattle.books.specs.declared.stack.Stack.{Stack}
 use Rattle.states.specs.declared.state.State.{State}
 use Rattle.conditions.specs.declared.truth.Truth.{Truth}
-use Rattle.conditions.specs.declared.truth.Truth.TheVariants.{True, False, Unknown}
-use Rattle.books.specs.Items.{item_at, operands, takes, after, Suits}
-use Rattle.books.specs.Stacks.{top, value, applied}
+use Rattle.conditions.specs.declared.truth.Truth.TheVariants.{Unknown}
+use Rattle.books.specs.Items.{item_at, operands, after, Suits}
+use Rattle.books.specs.Stacks.{applied}
 use Rattle.books.specs.Trees.{Tree, range, group, both, either, negated, meaning}
 use Rattle.books.specs.Readings.{grown, sole, tree_from, tree, truth_of}
 use Rattle.conditions.specs.Truths.{conj, disj, neg}

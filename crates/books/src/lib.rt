@@ -1,4 +1,6 @@
 //! The book: conditions written as bytes, numbered from 2.
+#![tactic(auto)]
+
 pub mod book;
 pub mod field;
 mod formula;

@@ -1,5 +1,4 @@
 -- The laws, gathered.
-use Rattle.std.proofs.Common.{◌≡◌}
 use Rattle.chains.specs.Laws.{DrawLaws, GrantLaws}
 use Rattle.chains.proofs.Sound.{decides_stands, chosen_none, chosen_some}
 use Rattle.chains.proofs.Least.{none_chosen, least_chosen}

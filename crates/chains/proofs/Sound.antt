@@ -1,5 +1,5 @@
 -- The listed chains are just the valid ones, in order; standing and the least chain are decided by them.
-use Rattle.std.proofs.Common.{◌≡◌, ℕ, zero, suc, ◌+◌, ◌-◌, ◌<◌, ◌≤◌, Bool, true, false, cond, not, ◌&&◌, ◌||◌, eqb, leb, ◌⊎◌, List, [], ◌∷◌, ◌++◌, map, length, get_or, take, drop, Some, None, Decides, Option, sym, refl, ap, ◌∙◌, subst, inl, inr, ⊎_elim, arith}
+use Rattle.std.proofs.Common.{◌≡◌, ℕ, zero, suc, ◌+◌, ◌-◌, ◌<◌, ◌≤◌, Bool, true, false, cond, not, ◌&&◌, eqb, leb, List, [], ◌∷◌, map, length, get_or, take, drop, Some, None, Decides, sym, refl, ap, ◌∙◌, subst, inl, inr, ⊎_elim, arith}
 use Rattle.std.specs.List.{AllByRecursion as All}
 use Rattle.std.proofs.lemmas.Bool.{true≢false, and_parts, and_from, le-leb, leb-true, eq-eqb, eqb-true}
 use Rattle.std.proofs.lemmas.List.{take_all}
@@ -9,8 +9,8 @@ use Rattle.conditions.specs.declared.truth.Truth.TheVariants.{True, False, Unkno
 use Rattle.states.specs.declared.state.State.{State}
 use Rattle.grants.specs.declared.Grant.{Grant}
 use Rattle.conditions.specs.Truths.{is_true}
-use Rattle.chains.specs.Lists.{In, Sorted, every, any, keep_if, first_of}
-use Rattle.chains.specs.Chains.{Person, Chain, AllOnward, AllExecute, Valid, JustifiesGrant, JustifiesDraw, Stands, Supports, Serves}
+use Rattle.chains.specs.Lists.{In, Sorted, keep_if}
+use Rattle.chains.specs.Chains.{Person, Chain, AllOnward, AllExecute, Valid, Stands, Supports, Serves}
 use Rattle.chains.specs.Order.{Lower, Before, Rising, Least}
 use Rattle.chains.specs.Laws.{Holds}
 use Rattle.chains.specs.Search.{is_person, is_sound, leads_to, end, onward_true, execute_true, follows, grow, start, more, chains, supports, serves, stands, least_chain}

@@ -1,13 +1,12 @@
 -- The definitions and their wording are the same.
-use Rattle.std.proofs.Common.{◌≡◌, ℕ, zero, suc, ◌+◌, ◌<◌, ◌≤◌, Bool, true, false, cond, not, ◌&&◌, ◌||◌, eqb, leb, ◌⊎◌, List, [], ◌∷◌, ◌++◌, map, length, Some, None, Decides, Option, sym, refl, ap, ◌∙◌, subst, inl, inr, ⊎_elim, arith}
+use Rattle.std.proofs.Common.{◌≡◌, ℕ, ◌<◌, List, [], ◌∷◌, ◌++◌, map, length, sym, refl, ap, ◌∙◌, subst, inl, inr, ⊎_elim, arith}
 use mathlib.Core.List.{head-eq_of_cons-eq, tail-eq_of_cons-eq, nil≢cons, cons≢nil}
 use Rattle.std.specs.List.{AllByRecursion as All}
 use Rattle.conditions.specs.declared.truth.Truth.{Truth}
-use Rattle.conditions.specs.declared.truth.Truth.TheVariants.{True, False, Unknown}
 use Rattle.states.specs.declared.state.State.{State}
 use Rattle.grants.specs.declared.Grant.{Grant}
-use Rattle.chains.specs.Lists.{In, Sorted}
-use Rattle.chains.specs.Chains.{Person, Chain, Valid, JustifiesGrant}
+use Rattle.chains.specs.Lists.{In}
+use Rattle.chains.specs.Chains.{Chain, Valid}
 use Rattle.chains.specs.Order.{Lower}
 use Rattle.chains.specs.Words.{Same, InWords, EachJustified, FirstLower}
 

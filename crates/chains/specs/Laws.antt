@@ -1,5 +1,5 @@
 -- The laws of chains, over every meaning of the conditions, and every state by which a grant is judged.
-use Rattle.std.specs.Prelude.{◌≡◌, ℕ, ◌≤◌, ◌⊎◌, List, [], length, Some, None, Decides, Option, ◌≢◌}
+use Rattle.std.specs.Prelude.{◌≡◌, ℕ, ◌≤◌, List, length, Some, None, Decides, ◌≢◌}
 use Rattle.std.specs.List.{AllByRecursion as All}
 use Rattle.states.specs.declared.state.State.{State}
 use Rattle.states.specs.States.{InRange, kept}

@@ -1,6 +1,6 @@
 -- Standing and the least chain as values: all valid chains of a hook, by number of grants and then by number, and the first
 -- that serves. Their laws say that they are what Chains and Order define.
-use Rattle.std.specs.Prelude.{ℕ, zero, suc, Bool, true, false, cond, not, ◌&&◌, List, [], ◌∷◌, ◌++◌, map, length, Option, ◌==◌, nat_le}
+use Rattle.std.specs.Prelude.{ℕ, zero, suc, Bool, cond, not, ◌&&◌, List, [], ◌∷◌, ◌++◌, map, length, Option, ◌==◌, nat_le}
 use Rattle.states.specs.declared.state.State.{State}
 use Rattle.grants.specs.declared.Grant.{Grant}
 use Rattle.conditions.specs.declared.truth.Truth.{Truth}

@@ -1,12 +1,11 @@
 -- The definitions once more, in the words that a reader expects. A chain being the newest first, what stands behind a grant
 -- came before it.
-use Rattle.std.specs.Prelude.{◌≡◌, ℕ, ◌<◌, List, [], ◌∷◌, ◌++◌, map, length, ◌≢◌}
+use Rattle.std.specs.Prelude.{◌≡◌, ℕ, ◌<◌, List, [], ◌∷◌, ◌++◌, map, ◌≢◌}
 use Rattle.states.specs.declared.state.State.{State}
 use Rattle.grants.specs.declared.Grant.{Grant}
 use Rattle.conditions.specs.declared.truth.Truth.{Truth}
 use Rattle.chains.specs.Lists.{In, Sorted}
-use Rattle.chains.specs.Chains.{Person, Chain, Valid, JustifiesGrant}
-use Rattle.chains.specs.Order.{Lower}
+use Rattle.chains.specs.Chains.{Person, JustifiesGrant}
 
 -- both ways
 abbrev pub Same : Type 0 → Type 0 → Type 0

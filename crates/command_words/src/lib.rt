@@ -1,4 +1,6 @@
 //! What a command says; specs/ has the format in which it is spelled.
+#![tactic(auto)]
+
 use grants::Mode;
 use states::report::Report;
 

@@ -1,3 +1,5 @@
 //! The writer of command records.
+#![tactic(auto)]
+
 mod pens;
 pub mod writer;

@@ -1,4 +1,6 @@
 //! Condition languages: what one is, and the layers that stand over any of them.
+#![tactic(auto)]
+
 pub mod distrust;
 pub mod joined;
 pub mod language;

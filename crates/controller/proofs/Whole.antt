@@ -1,6 +1,6 @@
 -- A run, call by call, and the promise at its end.
 use Rattle.std.proofs.Common.{◌≡◌, ℕ, suc, ◌+◌, ◌<◌, ◌≤◌, min, List, [], ◌∷◌, ◌++◌, map, length, get_or, take, drop, set, None, sym, refl, ap, ◌∙◌, subst, ⊎_elim, arith, take-append-drop, length-take, drop-drop, drop-set-lt}
-use mathlib.Core.List.{map_append}
+use mathlib.Core.List.{map-append}
 use lib.ListN.{length-map}
 use Rattle.std.proofs.lemmas.List.{take_more, take_more_set, get_or-map, take_all}
 use Rattle.std.proofs.lemmas.Bool.{cases_lt}
@@ -56,7 +56,7 @@ module _ {L : Type 0} (size : L → ℕ) (says : L → ℕ → State → Truth) 
         told =
             take_more_set written i a lw
             ∙ (λ j. s.told j ++ ((is ∙ ap (λ (x : World × Answer). shown x.1) here) j ∷ []))
-            ∙ sym (ap (λ l. map shown (answers n m kept whole new l)) more ∙ ap (map shown) (answers-++ n m kept whole new (take i calls) (k ∷ [])) ∙ map_append shown (answers n m kept whole new (take i calls)) ((step n m kept whole w k).1 ∷ []));
+            ∙ sym (ap (λ l. map shown (answers n m kept whole new l)) more ∙ ap (map shown) (answers-++ n m kept whole new (take i calls) (k ∷ [])) ∙ map-append shown (answers n m kept whole new (take i calls)) ((step n m kept whole w k).1 ∷ []));
         rest = drop-set-lt (i + 1) written i a (omega arith) ∙ sym (drop-drop 1 i written) ∙ ap (drop 1) s.rest ∙ drop-drop 1 i given;
       }
 

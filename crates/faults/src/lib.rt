@@ -1,4 +1,6 @@
 //! What a refusal says: which of the seventeen it is, where, and which layer refused.
+#![tactic(auto)]
+
 ghost use Rattle.std.specs.Prelude.{◌≡◌};
 ghost use Rattle.faults.specs.Faults.{number_of, layer_of, fault};
 

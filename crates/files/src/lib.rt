@@ -1,4 +1,6 @@
 //! Reading the file that a program is given.
+#![tactic(auto)]
+
 ghost use Rattle.std.specs.Prelude.{◌≤◌, IfOk, vec_len};
 
 use std::fs::File;

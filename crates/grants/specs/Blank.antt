@@ -1,6 +1,5 @@
 -- The grant that fills the unused places of a table.
-use Rattle.std.specs.Prelude.{ℕ, replicate, None}
-use Rattle.states.specs.declared.state.State.{State}
+use Rattle.std.specs.Prelude.{replicate, None}
 use Rattle.grants.specs.declared.Mode.TheVariants.{Expiring}
 use Rattle.grants.specs.declared.Grant.{Grant}
 

@@ -1,4 +1,6 @@
 //! A grant: what one person gave another on a hook, with its limits.
+#![tactic(auto)]
+
 ghost use Rattle.std.specs.Prelude.{◌≡◌};
 ghost use Rattle.grants.specs.Blank.{blank};
 

@@ -1,12 +1,12 @@
 -- What a loan more, a loan less and a key gone out mean for the hooks.
-use Rattle.std.proofs.Common.{◌≡◌, ℕ, ◌+◌, ◌<◌, ◌≤◌, Bool, true, false, cond, eqb, leb, List, [], ◌∷◌, length, get_or, take, set, is_some, Some, None, Option, sym, refl, ap, ◌∙◌, subst, ⊎_elim, arith}
+use Rattle.std.proofs.Common.{◌≡◌, ℕ, ◌<◌, Bool, true, false, cond, eqb, List, length, get_or, set, is_some, Some, None, Option, sym, refl, ap, ◌∙◌, ⊎_elim, arith}
 use Rattle.std.proofs.lemmas.Bool.{cases_Bool, cond-true, cond-false, eqb-true, eqb-false, lt-leb}
 use Rattle.numbered.specs.declared.Insertion.TheVariants.{Added}
 use Rattle.numbered.specs.Rows.{Rises, AllBelow, row_of, place_of, put, without}
 use Rattle.numbered.specs.Answers.{insertion, answer_to}
 use Rattle.numbered.proofs.Laws.{put_laws, without_laws, rises_parts, place_left, row_at, row_number, row_none, means_set}
 use Rattle.loans.specs.declared.state.HookState.{HookState}
-use Rattle.loans.specs.declared.state.HookState.TheVariants.{In, Promised, Out}
+use Rattle.loans.specs.declared.state.HookState.TheVariants.{In, Out}
 use Rattle.loans.specs.declared.table.Lent.{Lent}
 use Rattle.loans.specs.declared.table.Lent.TheVariants as lent
 use Rattle.loans.specs.declared.table.Loan.{Loan}

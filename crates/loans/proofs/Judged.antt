@@ -1,5 +1,5 @@
 -- An event is accepted just if it is allowed, and leads to one state.
-use Rattle.std.proofs.Common.{◌≡◌, ℕ, ◌<◌, Bool, true, false, cond, eqb, ltb, Ok, Err, Result, refl, ap, ◌∙◌, arith}
+use Rattle.std.proofs.Common.{◌≡◌, ℕ, Bool, true, false, cond, eqb, ltb, Ok, Err, refl, ap, ◌∙◌, arith}
 use Rattle.std.proofs.lemmas.Bool.{cond-true, eq-eqb, lt-ltb, eqb-true, ltb-true}
 use Rattle.faults.specs.declared.Fault.{Fault}
 use Rattle.loans.specs.declared.state.HookState.{HookState}

@@ -1,17 +1,13 @@
 -- The hooks as a list of 32, and one of them changed.
-use Rattle.std.proofs.Common.{◌≡◌, ℕ, ◌<◌, ◌≤◌, Bool, true, false, cond, eqb, ltb, List, length, get_or, set, Ok, Err, Result, sym, refl, ap, ◌∙◌, subst, ⊎_elim, arith}
+use Rattle.std.proofs.Common.{◌≡◌, ℕ, ◌<◌, eqb, length, get_or, set, sym, refl, ap, ◌∙◌, ⊎_elim, arith}
 use Rattle.std.proofs.lemmas.List.FromFn.{length-map-range_with_len, get_or-map-range_with_len, fill_by_all}
 use Rattle.std.proofs.lemmas.List.{length-set, get_or-set_same, get_or-set_other, get_or_past}
 use Rattle.std.proofs.lemmas.Bool.{cases_eq, cases_lt, cond-true, cond-false, eq-eqb, ne_eqb}
-use Rattle.faults.specs.declared.Fault.{Fault}
 use Rattle.numbered.proofs.Laws.{none_above}
 use Rattle.loans.specs.declared.state.HookState.{HookState}
-use Rattle.loans.specs.declared.state.HookState.TheVariants.{In, Promised, Out}
-use Rattle.loans.specs.declared.state.Event.{Event}
-use Rattle.loans.specs.declared.state.Event.TheVariants.{Draw, Take, Leave, Return}
+use Rattle.loans.specs.declared.state.HookState.TheVariants.{In}
 use Rattle.loans.specs.declared.table.Loans.{Loans}
-use Rattle.loans.specs.Events.{judged, Allowed, leads_to}
-use Rattle.loans.specs.Hooks.{hook_of, loans_in, state_by, state_of, hooks, Moved, Leaves, Only, gone_out}
+use Rattle.loans.specs.Hooks.{hook_of, loans_in, state_by, state_of, hooks, Moved, Only}
 
 -- the state of a hook, from the list; past the last hook no key is promised or out
 pub listed : (ls : Loans) (h : ℕ) → state_of ls h ≡ get_or (hooks ls) h In

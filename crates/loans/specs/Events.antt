@@ -1,5 +1,5 @@
 -- What becomes of a key: each event judged with the state of its hook.
-use Rattle.std.specs.Prelude.{◌≡◌, ℕ, ◌<◌, Bool, cond, Ok, Err, Result, ◌==◌, nat_lt}
+use Rattle.std.specs.Prelude.{◌≡◌, ℕ, ◌<◌, cond, Ok, Err, Result, ◌==◌, nat_lt}
 use Rattle.faults.specs.declared.Fault.{Fault}
 use Rattle.faults.specs.declared.Refusal.TheVariants.{NoSuchHook, KeyNotIn, KeyNotOut, NotPromised}
 use Rattle.faults.specs.Faults.{fault}

@@ -1,5 +1,5 @@
 -- What the loans mean: where the key of every hook is, and what an event leaves of that.
-use Rattle.std.specs.Prelude.{◌≡◌, ℕ, Bool, cond, List, map, take, Some, None, Ok, Err, Option, Result, MatchResult, ◌==◌, ◌≢◌, slice_set}
+use Rattle.std.specs.Prelude.{◌≡◌, ℕ, cond, List, map, take, Some, None, Ok, Err, Option, Result, MatchResult, ◌==◌, ◌≢◌, slice_set}
 use Rattle.std.specs.List.{range_with_len}
 use Rattle.faults.specs.declared.Fault.{Fault}
 use Rattle.numbered.specs.Rows.{row_of}

@@ -1,4 +1,6 @@
 //! The keys that are not in: promised to a person, or out. And the slip, the promise of a key.
+#![tactic(auto)]
+
 ghost use Rattle.std.specs.Prelude.{◌≡◌, ℕ, ◌<◌, true, replicate, IfSome, is_ok, Ok, slice_index_or};
 ghost use Rattle.numbered.specs.Rows.{place_of};
 ghost use Rattle.loans.specs.declared.state.HookState.TheVariants.{In, Promised, Out};

@@ -1,8 +1,8 @@
 -- Laws of adding and removing: where the row goes, what the numbers mean then, and that they still rise.
-use Rattle.std.proofs.Common.{◌≡◌, ℕ, zero, suc, ◌+◌, ◌<◌, ◌≤◌, Bool, true, false, cond, ◌&&◌, eqb, ltb, leb, ◌⊎◌, List, [], ◌∷◌, ◌++◌, length, get_or, set, is_some, Some, None, Option, sym, refl, ap, ◌∙◌, subst, inl, inr, ⊎_elim, arith}
-use Rattle.std.proofs.lemmas.Bool.{eq-eqb, ne_eqb, lt-ltb, eqb-true, eqb-false, cases_lt, ltb-true, ltb-false, cases_Bool, cond-true, cond-false, cond_both, and_parts, and_from, leb-true, le-leb}
+use Rattle.std.proofs.Common.{◌≡◌, ℕ, zero, suc, ◌+◌, ◌<◌, ◌≤◌, Bool, true, false, cond, ◌&&◌, eqb, ltb, leb, List, [], ◌∷◌, ◌++◌, length, get_or, set, is_some, Some, None, Option, sym, refl, ap, ◌∙◌, ⊎_elim, arith}
+use Rattle.std.proofs.lemmas.Bool.{ne_eqb, lt-ltb, eqb-true, eqb-false, cases_lt, ltb-true, ltb-false, cases_Bool, cond-true, cond-false, cond_both, and_parts, and_from, leb-true, le-leb}
 use Rattle.std.specs.List.{insert, remove}
-use Rattle.numbered.specs.Rows.{rises_from, Rises, place_from, place_of, row_of, put, before, without, all_below, AllBelow}
+use Rattle.numbered.specs.Rows.{rises_from, place_from, row_of, put, before, without, all_below, AllBelow}
 use Rattle.numbered.specs.declared.Insertion.{Insertion}
 use Rattle.numbered.specs.declared.Insertion.TheVariants.{Added, Taken, Full}
 use Rattle.numbered.specs.Answers.{PutLaws, WithoutLaws, KeptUnlessAdded, KeptIfNone}

@@ -1,10 +1,10 @@
 -- One row turned into its place, or out to the end.
-use Rattle.std.proofs.Common.{◌≡◌, ℕ, suc, ◌+◌, ◌-◌, ◌<◌, ◌≤◌, List, [], ◌∷◌, ◌++◌, length, get_or, take, drop, set, sym, refl, ap, ◌∙◌, subst, add-one, arith}
+use Rattle.std.proofs.Common.{◌≡◌, ℕ, suc, ◌+◌, ◌-◌, ◌<◌, ◌≤◌, List, [], ◌∷◌, ◌++◌, length, get_or, take, drop, set, sym, refl, ap, ◌∙◌, arith}
 use borrow.Rule.Slice.PartMut.{put_mid}
 use Rattle.std.proofs.lemmas.List.{drop_more, drop_at, take_at, take-take, take-set, take-set-le, get_or-set_same, length-set, length-take-le, length-drop, length-append, append_assoc}
 use Rattle.std.proofs.lemmas.List.Edits.{between_more}
 use Rattle.std.proofs.lemmas.Slice.{between_is, take-put_mid}
-use Rattle.std.specs.List.{insert, remove, between}
+use Rattle.std.specs.List.{insert, between}
 
 module _ {X : Type 0} where
   pub turned_in : (xs part : List X) (count at : ℕ) (x : X) → at ≤ count → count < length xs

@@ -1,5 +1,5 @@
 -- What adding and removing answer, and what the table then holds and means.
-use Rattle.std.specs.Prelude.{◌≡◌, ℕ, ◌≤◌, Bool, true, false, cond, List, [], ◌∷◌, ◌++◌, length, is_some, Some, None, Option, ◌==◌, ◌≢◌, nat_le}
+use Rattle.std.specs.Prelude.{◌≡◌, ℕ, Bool, true, false, cond, List, [], ◌∷◌, ◌++◌, length, is_some, Some, None, Option, ◌==◌, ◌≢◌, nat_le}
 use Rattle.numbered.specs.declared.Insertion.{Insertion}
 use Rattle.numbered.specs.declared.Insertion.TheVariants.{Added, Taken, Full}
 use Rattle.numbered.specs.Rows.{Rises, row_of, put, without, AllBelow}

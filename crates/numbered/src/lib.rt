@@ -1,6 +1,8 @@
 //! Tables of rows that have a number: finding, adding and removing by it, with the order kept.
 //! A table is a slice and a count: its first `count` places are in use. A count past the end of
 //! the slice means that every place is.
+#![tactic(auto)]
+
 ghost use Rattle.std.specs.Prelude.{◌≡◌, ℕ, ◌-◌, ◌<◌, ◌≤◌, ◌++◌, length, take, drop, IfSome, ◌==◌, nat_lt};
 ghost use Rattle.numbered.specs.Rows.{Rises, place_of, row_of, without, before};
 ghost use Rattle.numbered.specs.Answers.{insertion, after_insertion, KeptUnlessAdded, KeptIfNone, PutLaws, WithoutLaws};

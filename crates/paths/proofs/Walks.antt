@@ -1,13 +1,11 @@
 -- What the loop of a walk comes to.
-use Rattle.std.proofs.Common.{◌≡◌, ℕ, suc, ◌+◌, ◌-◌, ◌<◌, ◌≤◌, Bool, true, false, eqb, ◌⊎◌, List, [], ◌∷◌, ◌++◌, length, get_or, take, drop, set, replicate, MatchBool, sym, refl, ap, ◌∙◌, subst, inl, inr, ⊎_elim, arith}
+use Rattle.std.proofs.Common.{◌≡◌, ℕ, suc, ◌+◌, ◌-◌, ◌<◌, ◌≤◌, true, false, eqb, List, [], ◌∷◌, ◌++◌, length, get_or, drop, set, replicate, MatchBool, sym, refl, ap, ◌∙◌, subst, inl, inr, ⊎_elim, arith}
 use native.Mathlib.Nat.{sub-zero}
 use lib.Bits.{bit_and}
 use borrow.Rule.Slice.PartMut.{put_mid}
 use Rattle.std.proofs.lemmas.List.{drop_all, append-nil, drop-replicate}
-use Rattle.std.proofs.lemmas.Bool.{eqb-true, eqb-false, cases_Bool, cases_order, cases_eq, cases_lt, both_ways, and_from, eq-eqb}
+use Rattle.std.proofs.lemmas.Bool.{eqb-true, eqb-false, cases_order, cases_eq, cases_lt, both_ways}
 use Rattle.paths.specs.Sets.{member}
-use Rattle.paths.specs.Memories.{Given}
-use Rattle.paths.proofs.Members.{member_and}
 use Rattle.paths.specs.Steps.{Steps, First, Never}
 use Rattle.paths.specs.Chains.{NotAfter, route_of}
 use Rattle.paths.specs.declared.net.Net.{Net}

@@ -1,5 +1,7 @@
 //! The best chain of grants from an owner to a person, over places: fast on every record, with no
 //! heap, and no deeper than eight calls.
+#![tactic(auto)]
+
 pub mod links;
 mod memory;
 mod net;

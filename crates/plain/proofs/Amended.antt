@@ -1,5 +1,5 @@
 -- An accepted amendment's grant stands on the record that it leaves.
-use Rattle.std.proofs.Common.{◌≡◌, ℕ, ◌+◌, [], ◌∷◌, ◌++◌, sym, refl, ap, subst, inl}
+use Rattle.std.proofs.Common.{◌≡◌, ℕ, [], ◌∷◌, ◌++◌, sym, refl, ap, subst, inl}
 use Rattle.std.proofs.lemmas.Bool.{not-false}
 use Rattle.states.specs.declared.state.State.{State}
 use Rattle.grants.specs.declared.Grant.{Grant}

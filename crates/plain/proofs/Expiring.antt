@@ -1,5 +1,5 @@
 -- Every grant of mode E on record stands.
-use Rattle.std.proofs.Common.{◌≡◌, ℕ, ◌+◌, true, ◌||◌, ◌⊎◌, List, [], ◌∷◌, ◌++◌, ap, ◌∙◌, subst, ⊎_elim}
+use Rattle.std.proofs.Common.{◌≡◌, ℕ, true, ◌||◌, List, [], ◌∷◌, ◌++◌, ap, ◌∙◌, subst, ⊎_elim}
 use Rattle.std.proofs.lemmas.Bool.{or_left, or_right, or_cases, not-false}
 use Rattle.states.specs.declared.state.State.{State}
 use Rattle.grants.specs.declared.Grant.{Grant}

@@ -1,5 +1,5 @@
 -- Nobody else breaks a chain.
-use Rattle.std.proofs.Common.{◌≡◌, ℕ, ◌+◌, false, not, ◌||◌, eqb, ltb, List, [], ◌∷◌, ◌++◌, is_some, Some, None, Option, refl, subst, arith}
+use Rattle.std.proofs.Common.{◌≡◌, ℕ, false, not, ◌||◌, eqb, ltb, List, [], ◌∷◌, ◌++◌, is_some, Some, None, Option, refl, subst, arith}
 use Rattle.std.specs.List.{AllByRecursion as All}
 use Rattle.faults.specs.declared.Refusal.TheVariants.{NotAPerson, NoSuchHook, NoChain}
 use Rattle.faults.specs.Faults.{fault}

@@ -1,4 +1,6 @@
 //! The plain record of a list of calls, and the checks of the calls.
+#![tactic(auto)]
+
 ghost use Rattle.std.specs.Prelude.{◌≡◌, ◌%◌, not, List, [], ◌∷◌, is_some, ◌==◌, nat_lt};
 ghost use Rattle.std.specs.Option.{unwrap_or};
 ghost use Rattle.grants.specs.Blank.{blank};

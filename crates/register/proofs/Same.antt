@@ -1,5 +1,5 @@
 -- Two registers with the same rows and the same count are the same.
-use Rattle.std.proofs.Common.{◌≡◌, ℕ, ◌≤◌, true, length, take}
+use Rattle.std.proofs.Common.{◌≡◌, ◌≤◌, true, length, take}
 use mathlib.Core.Bool.{Bool-set}
 use mathlib.Core.HLevel.{is_prop→PathP}
 use native.Mathlib.Bridge.{le_prop}

@@ -1,4 +1,6 @@
 //! The grants on record: found, added and removed by number, with their order kept.
+#![tactic(auto)]
+
 ghost use Rattle.std.specs.Prelude.{◌≡◌, ◌<◌, ◌≤◌, [], length, take, IfSome};
 ghost use Rattle.numbered.specs.Rows.{place_of, row_of, without};
 ghost use Rattle.numbered.specs.Answers.{insertion, after_insertion, KeptUnlessAdded, KeptIfNone};

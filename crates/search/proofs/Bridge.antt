@@ -1,5 +1,5 @@
 -- The chains over links are the chains over the record.
-use Rattle.std.proofs.Common.{◌≡◌, ℕ, ◌+◌, ◌<◌, ◌≤◌, Bool, true, false, ◌&&◌, eqb, ◌⊎◌, List, [], ◌∷◌, ◌++◌, map, length, get_or, sym, refl, ap, ◌∙◌, subst, inl, inr, ⊎_elim, arith}
+use Rattle.std.proofs.Common.{◌≡◌, ℕ, ◌<◌, Bool, true, ◌&&◌, eqb, List, [], ◌∷◌, ◌++◌, length, get_or, sym, refl, ap, ◌∙◌, subst}
 use Rattle.std.specs.List.{AllByRecursion as All}
 use Rattle.std.proofs.lemmas.Bool.{and_parts, and_from, eqb-true, eq-eqb}
 use Rattle.states.specs.declared.state.State.{State}
@@ -10,7 +10,6 @@ use Rattle.conditions.specs.Truths.{is_true}
 use Rattle.paths.specs.Sets.{member}
 use Rattle.paths.specs.Chains.{Joins, AllIn, Admitted, NoneOf, Apart, reached, Chain as Way}
 use Rattle.paths.specs.declared.links.Links.{Links}
-use Rattle.chains.specs.Lists.{In}
 use Rattle.chains.specs.Chains.{Person, Chain, Valid, AllOnward}
 use Rattle.chains.specs.Laws.{recorded}
 use Rattle.chains.proofs.Sound.{decides_is_true}

@@ -1,5 +1,5 @@
 -- What a search finds, in the words of the record.
-use Rattle.std.proofs.Common.{◌≡◌, ℕ, ◌+◌, ◌-◌, ◌<◌, ◌≤◌, Bool, true, false, cond, ◌&&◌, eqb, ltb, ◌⊎◌, List, [], ◌∷◌, ◌++◌, map, reverse, length, get_or, replicate, Some, None, Decides, Option, sym, refl, ap, ◌∙◌, subst, inl, inr, ⊎_elim, arith}
+use Rattle.std.proofs.Common.{◌≡◌, ℕ, ◌+◌, ◌-◌, ◌<◌, ◌≤◌, Bool, true, cond, ◌&&◌, eqb, ltb, List, [], ◌∷◌, ◌++◌, map, reverse, length, get_or, replicate, Some, None, Decides, Option, sym, refl, ap, ◌∙◌, subst, inl, inr, ⊎_elim, arith}
 use Rattle.std.specs.List.{range_with_len, AllByRecursion as All}
 use Rattle.std.specs.Option.{option_map}
 use Rattle.std.proofs.lemmas.List.FromFn.{get_or-map-range_with_len, length-map-range_with_len}
@@ -12,13 +12,13 @@ use Rattle.conditions.specs.declared.truth.Truth.{Truth}
 use Rattle.conditions.specs.declared.truth.Truth.TheVariants.{True}
 use Rattle.conditions.specs.Truths.{is_true}
 use Rattle.paths.specs.Sets.{member}
-use Rattle.paths.specs.Chains.{Best, NotWorse, route_of, Chain as Way}
+use Rattle.paths.specs.Chains.{Best, route_of, Chain as Way}
 use Rattle.paths.specs.declared.links.Links.{Links}
 use Rattle.paths.specs.declared.route.Route.{Route}
 use Rattle.chains.specs.declared.chain.Which.{Which}
 use Rattle.chains.specs.declared.chain.Which.TheVariants.{Execute, Onward}
-use Rattle.chains.specs.Chains.{Person, Chain, Valid, Stands, Serves}
-use Rattle.chains.specs.Order.{Lower, Before, Rising, Least}
+use Rattle.chains.specs.Chains.{Person, Serves}
+use Rattle.chains.specs.Order.{Lower, Rising}
 use Rattle.chains.specs.Search.{condition_of, is_person, stands, least_chain}
 use Rattle.chains.specs.Laws.{recorded}
 use Rattle.chains.proofs.Sound.{decides_is_true, decides_person, decides_stands}
@@ -30,7 +30,7 @@ use Rattle.search.specs.Asked.{Passing, ColumnsTo, Linked, Reached}
 use Rattle.search.specs.Answers.{named_of, named, Answered, entry, entries}
 use Rattle.search.proofs.Places.{record_rises, at_read, onto, onto_length, onto_numbers, not_after}
 use Rattle.search.proofs.Snoc.{joins_low}
-use Rattle.search.proofs.Bridge.{Fits, Passes, there, back}
+use Rattle.search.proofs.Bridge.{Fits, there, back}
 
 -- zeros behind a list, up to n
 padded : (f : ℕ → ℕ) (w : List ℕ) (n : ℕ) → length w ≤ n

@@ -1,5 +1,5 @@
 -- Grants by place, and a list of places as a chain of grants.
-use Rattle.std.proofs.Common.{◌≡◌, ℕ, zero, suc, ◌+◌, ◌<◌, ◌≤◌, Bool, true, false, ◌&&◌, leb, ◌⊎◌, List, [], ◌∷◌, ◌++◌, map, reverse, length, get_or, drop, sym, refl, ap, ◌∙◌, subst, inl, inr, ⊎_elim, add-one, arith}
+use Rattle.std.proofs.Common.{◌≡◌, ℕ, zero, suc, ◌+◌, ◌<◌, ◌≤◌, true, false, ◌&&◌, leb, ◌⊎◌, List, [], ◌∷◌, ◌++◌, map, reverse, length, get_or, drop, sym, refl, ap, ◌∙◌, subst, inl, inr, add-one, arith}
 use mathlib.Core.List.{reverse-cons}
 use Rattle.std.specs.List.{AllByRecursion as All}
 use Rattle.std.proofs.lemmas.List.{append-nil, append_assoc}
@@ -7,7 +7,7 @@ use Rattle.std.proofs.lemmas.Bool.{and_parts, leb-true, lt-leb, le-leb}
 use Rattle.grants.specs.declared.Grant.{Grant}
 use Rattle.grants.specs.Blank.{blank}
 use Rattle.paths.specs.Chains.{NotAfter}
-use Rattle.chains.specs.Lists.{In, Sorted}
+use Rattle.chains.specs.Lists.{In}
 use Rattle.chains.specs.Order.{Lower, Rising}
 use Rattle.numbered.specs.Rows.{rises_from}
 use Rattle.search.specs.Records.{at, number_of, is_record}

@@ -1,5 +1,5 @@
 -- One place more at the end of a chain over links.
-use Rattle.std.proofs.Common.{◌≡◌, ℕ, ◌<◌, true, List, [], ◌∷◌, ◌++◌, map, length, get_or, sym, refl, ap, ◌∙◌, subst}
+use Rattle.std.proofs.Common.{◌≡◌, ℕ, ◌<◌, true, List, [], ◌∷◌, ◌++◌, get_or, sym, refl, ap, ◌∙◌}
 use Rattle.std.specs.List.{AllByRecursion as All}
 use Rattle.paths.specs.Sets.{member}
 use Rattle.paths.specs.Chains.{Joins, AllIn, Admitted, NoneOf, Apart, reached}

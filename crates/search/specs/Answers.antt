@@ -1,5 +1,5 @@
 -- What a draw is told: the numbers of a chain's grants.
-use Rattle.std.specs.Prelude.{◌≡◌, ℕ, ◌-◌, true, cond, List, [], ◌∷◌, ◌++◌, map, reverse, length, replicate, Some, None, Option, nat_lt, slice_index}
+use Rattle.std.specs.Prelude.{◌≡◌, ℕ, ◌-◌, cond, List, ◌++◌, map, reverse, length, replicate, Some, None, Option, nat_lt, slice_index}
 use Rattle.std.specs.List.{range_with_len}
 use Rattle.states.specs.declared.state.State.{State}
 use Rattle.grants.specs.declared.Grant.{Grant}
@@ -9,7 +9,7 @@ use Rattle.chains.specs.Chains.{Serves}
 use Rattle.chains.specs.Order.{Least}
 use Rattle.chains.specs.Laws.{recorded}
 use Rattle.search.specs.declared.named.Named.{Named}
-use Rattle.search.specs.Records.{is_record, at}
+use Rattle.search.specs.Records.{at}
 
 -- the numbers of a chain, the oldest first, and zeros behind up to eight
 abbrev pub named_of : List Grant → Named

@@ -1,5 +1,5 @@
 -- A row of a sheet: the "and" of five tests, of which one that asks nothing is true.
-use Rattle.std.specs.Prelude.{ℕ, ◌/◌, ◌%◌, ◌^◌, Bool, cond, ◌&&◌, List, [], ◌∷◌, Some, None, Option, ◌==◌, bit_and, nat_lt, slice_index}
+use Rattle.std.specs.Prelude.{ℕ, ◌/◌, ◌%◌, ◌^◌, cond, ◌&&◌, [], ◌∷◌, Some, None, Option, ◌==◌, bit_and, nat_lt, slice_index}
 use Rattle.states.specs.declared.state.State.{State}
 use Rattle.states.specs.States.{known}
 use Rattle.conditions.specs.declared.truth.Truth.{Truth}

@@ -8,7 +8,7 @@ use Rattle.conditions.specs.declared.truth.Truth.TheVariants.{True, Unknown}
 use Rattle.conditions.specs.Laws.{Lawful, Stays}
 use Rattle.conditions.specs.OwnLaws.{own_lawful}
 use Rattle.conditions.specs.Steady.{conj_steady, stays_cond, test_steady}
-use Rattle.conditions.specs.Truths.{conj, within}
+use Rattle.conditions.specs.Truths.{within}
 use Rattle.sheets.specs.declared.row.Row.{Row}
 use Rattle.sheets.specs.Rows.{blank, hours_of, days_of, groups_of, path_of, barred_of, row_says, holds_all, in_days, other}
 use Rattle.sheets.specs.Sheets.{sheet_says}

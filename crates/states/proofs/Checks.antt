@@ -1,11 +1,11 @@
 -- The check of ranges, variable by variable.
-use Rattle.std.proofs.Common.{◌≡◌, ℕ, zero, suc, ◌+◌, ◌-◌, ◌<◌, ◌≤◌, Bool, true, false, cond, ◌||◌, ltb, Some, None, Err, Option, sym, refl, ap, ◌∙◌, subst, add-one, arith}
+use Rattle.std.proofs.Common.{◌≡◌, ℕ, suc, ◌+◌, ◌-◌, ◌<◌, true, false, ◌||◌, ltb, Some, None, Err, Option, sym, refl, ap, ◌∙◌, add-one, arith}
 use Rattle.std.proofs.lemmas.Bool.{cond-true, cond-false, or_parts, ltb-false, ltb-true, le-ltb}
 use Rattle.faults.specs.declared.Refusal.TheVariants.{ValueOutOfRange}
 use Rattle.faults.specs.Faults.{fault}
 use Rattle.states.specs.declared.state.State.{State}
 use Rattle.states.specs.States.{known, least, greatest, InRangeAt, InRange}
-use Rattle.states.specs.Ranges.{out, out_at, check_from, range_check, Ranged}
+use Rattle.states.specs.Ranges.{out, out_at, check_from}
 use Rattle.states.specs.Parts.{none_known}
 
 module _ (s : State) (v : ℕ) (h : v < 8) where

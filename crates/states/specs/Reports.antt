@@ -1,5 +1,5 @@
 -- A whole state, made of the caller, the receiver and what the caller tells.
-use Rattle.std.specs.Prelude.{ℕ, List, [], ◌∷◌, Some, None, Option}
+use Rattle.std.specs.Prelude.{ℕ, [], ◌∷◌, Some, Option}
 use Rattle.states.specs.declared.state.State.{State}
 use Rattle.states.specs.declared.report.Report.{Report}
 

@@ -1,4 +1,6 @@
 //! The timetable of a book: what each of its conditions says through a day.
+#![tactic(auto)]
+
 ghost use Rattle.std.specs.Prelude.{◌≡◌, ◌++◌, IfOk, string_bytes, codes, decimal, OnOk};
 ghost use Rattle.timetables.specs.Timetables.{word_of, same, at_minute, piece_of, truths, course, line, table_of, printed};
 

@@ -1,5 +1,5 @@
 -- The worked cases, each with what the plain record answers.
-use Rattle.std.specs.Prelude.{◌≡◌, ℕ, true, List, [], ◌∷◌, ◌++◌, map, Some, None, Ok}
+use Rattle.std.specs.Prelude.{◌≡◌, ℕ, true, List, [], ◌∷◌, ◌++◌, map, None, Ok}
 use Rattle.states.specs.Reports.{state_of}
 use Rattle.states.specs.States.{kept}
 use Rattle.grants.specs.declared.Mode.{Mode}

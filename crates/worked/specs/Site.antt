@@ -1,5 +1,5 @@
 -- The site of the worked cases: hook 0 belongs to person 1, TIME is kept, and a book of three conditions.
-use Rattle.std.specs.Prelude.{ℕ, List, [], ◌∷◌, replicate, Some, None, Option}
+use Rattle.std.specs.Prelude.{ℕ, List, [], ◌∷◌, replicate, Some, None}
 use Rattle.faults.specs.declared.Refusal.TheVariants.{NoChain, KeyNotIn}
 use Rattle.faults.specs.Faults.{fault}
 use Rattle.states.specs.declared.report.Report.{Report}

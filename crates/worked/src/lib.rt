@@ -1,4 +1,6 @@
 //! Worked cases, proved from the definitions over the bytes of a book.
+#![tactic(auto)]
+
 ghost use Rattle.std.specs.Prelude.{◌≡◌};
 ghost use Rattle.worked.specs.Site.{site_book};
 ghost use Rattle.worked.specs.Cases.{Worked};

@@ -7,10 +7,10 @@ use Rattle.call_checks.proofs.check_terms.Goals as goal
 
 pub returns : goal.returns
 returns c =
-    c.check-conditions.ensures
-    ∙ sym (through (found (range_check (state_of c.args.caller None c.args.report.now)) ∷ []) (condition c.args.count c.args.execute 5 ∷ condition c.args.count c.args.onward 6 ∷ []) _ c.in-ok-check-report.ensures)
+    c.check_conditions.ensures
+    ∙ sym (through (found (range_check (state_of c.args.caller None c.args.report.now)) ∷ []) (condition c.args.count c.args.execute 5 ∷ condition c.args.count c.args.onward 6 ∷ []) _ c.in_ok-check_report.ensures)
 
-pub returns-in-err-check-report : goal.returns-in-err-check-report
-returns-in-err-check-report c =
-    passed_on c.from-residual.result _ c.from-residual.ensures.1
-    (found (range_check (state_of c.args.caller None c.args.report.now)) ∷ []) (condition c.args.count c.args.execute 5 ∷ condition c.args.count c.args.onward 6 ∷ []) c.in-err-check-report.ensures
+pub returns-in_err-check_report : goal.returns-in_err-check_report
+returns-in_err-check_report c =
+    passed_on c.from_residual.result _ c.from_residual.ensures.1
+    (found (range_check (state_of c.args.caller None c.args.report.now)) ∷ []) (condition c.args.count c.args.execute 5 ∷ condition c.args.count c.args.onward 6 ∷ []) c.in_err-check_report.ensures

@@ -1,8 +1,8 @@
-use Rattle.std.proofs.Common.{◌≡◌, ℕ, ◌+◌, ◌-◌, ◌<◌, ◌≤◌, Bool, true, false, leb, List, length, take, is_some, Option, sym, refl, ap, ◌∙◌, subst, arith}
+use Rattle.std.proofs.Common.{◌≡◌, ℕ, ◌-◌, ◌<◌, Bool, true, false, leb, List, length, take, is_some, Option, sym, refl, ap, ◌∙◌, subst, arith}
 use Rattle.std.specs.List.{insert}
 use Rattle.std.proofs.lemmas.Bool.{lt-leb, le-leb}
 use Rattle.numbered.specs.Rows.{place_of, row_of, before, Rises}
-use Rattle.numbered.specs.Answers.{answer_to, insertion}
+use Rattle.numbered.specs.Answers.{answer_to}
 use Rattle.numbered.proofs.Moves.{turned_in}
 use Rattle.numbered.proofs.Steps.{take_used, used_part, before_le}
 use Rattle.numbered.proofs.Laws.{put_is, put_laws, none_from_test, row_test}

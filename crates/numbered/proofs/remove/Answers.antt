@@ -1,8 +1,7 @@
-use Rattle.std.proofs.Common.{◌≡◌, ℕ, ◌+◌, ◌-◌, ◌<◌, ◌≤◌, List, ◌++◌, length, get_or, take, drop, Some, None, Option, sym, refl, ap, ◌∙◌, subst, add-one, arith, get_or-take}
+use Rattle.std.proofs.Common.{◌≡◌, ℕ, ◌+◌, ◌-◌, ◌<◌, List, ◌++◌, length, get_or, take, drop, Some, None, Option, sym, refl, ap, ◌∙◌, subst, add-one, arith, get_or-take}
 use Rattle.std.proofs.lemmas.List.{length-take}
 use Rattle.std.specs.List.{remove}
-use Rattle.numbered.specs.Rows.{place_of, without, Rises}
-use Rattle.numbered.specs.Answers.{KeptIfNone}
+use Rattle.numbered.specs.Rows.{place_of, Rises}
 use Rattle.numbered.proofs.Moves.{turned_out}
 use Rattle.numbered.proofs.Steps.{take_used, used_part}
 use Rattle.numbered.proofs.Laws.{row_at, row_none, without_none, without_laws}

@@ -1,4 +1,4 @@
-use Rattle.std.proofs.Common.{◌≡◌, ℕ, ◌-◌, List, ◌++◌, string_bytes, codes, decimal, sym, ap, ◌∙◌, arith}
+use Rattle.std.proofs.Common.{◌≡◌, ◌-◌, ◌++◌, string_bytes, codes, decimal, ap, ◌∙◌, arith}
 use Rattle.timetables.specs.Timetables.{lines}
 use Rattle.timetables.proofs.Texts.{lines_none, lines_more}
 use Rattle.timetables.proofs.table.Goals as goal

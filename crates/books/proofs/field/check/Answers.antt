@@ -1,6 +1,6 @@
-use Rattle.std.proofs.Common.{◌+◌, ◌&&◌, ltb, drop, Err, sym, ap, ◌∙◌, subst, arith}
+use Rattle.std.proofs.Common.{◌+◌, Err, sym, ap, ◌∙◌, subst, arith}
 use Rattle.std.proofs.lemmas.Bool.{and_parts, ltb-true}
-use Rattle.books.specs.Books.{long, good_at, Judged}
+use Rattle.books.specs.Books.{Judged}
 use Rattle.books.proofs.Fields.{Walk, walk_none, walk_more, walk_bad, walk_all, when_some, when_none, good_room, judged}
 use Rattle.books.proofs.Spelling.{spelled}
 use Rattle.books.proofs.field.check.Goals as goal

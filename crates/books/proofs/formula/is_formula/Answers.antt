@@ -1,6 +1,6 @@
 use Rattle.std.proofs.Common.{◌+◌, eqb, is_some, sym, ap, ◌∙◌, subst}
 use Rattle.std.proofs.lemmas.List.{take_rest}
-use Rattle.books.specs.Items.{operands, after}
+use Rattle.books.specs.Items.{after}
 use Rattle.books.proofs.Reading.{Read, read_more, read_bad, read_all, sole_one}
 use Rattle.books.proofs.formula.is_formula.Goals as goal
 

@@ -1,4 +1,4 @@
-use Rattle.std.proofs.Common.{◌-◌, ◌≤◌, length}
+use Rattle.std.proofs.Common.{◌-◌, length}
 use Rattle.books.proofs.Reading.{Read}
 use Rattle.books.proofs.formula.is_formula.Given as goal
 

@@ -1,8 +1,7 @@
-use Rattle.std.proofs.Common.{◌≡◌, ℕ, ◌+◌, is_some, sym, refl, ap, ◌∙◌, subst, arith}
+use Rattle.std.proofs.Common.{◌≡◌, ℕ, ◌+◌, is_some, sym, ap, ◌∙◌, subst, arith}
 use Rattle.std.proofs.lemmas.List.{take_rest}
-use Rattle.books.specs.Items.{operands}
 use Rattle.books.specs.Stacks.{applied}
-use Rattle.books.proofs.Reading.{Worked, read_none, read_bad, worked_none, worked_more, worked_all}
+use Rattle.books.proofs.Reading.{Worked, read_bad, worked_none, worked_more, worked_all}
 use Rattle.books.proofs.formula.truth_of.Goals as goal
 
 pub loop-at-init : goal.loop-at-init

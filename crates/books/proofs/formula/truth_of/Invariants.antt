@@ -1,4 +1,4 @@
-use Rattle.std.proofs.Common.{◌-◌, ◌≤◌, length}
+use Rattle.std.proofs.Common.{◌-◌, length}
 use Rattle.books.proofs.Reading.{Worked}
 use Rattle.books.proofs.formula.truth_of.Given as goal
 

@@ -1,6 +1,5 @@
-use Rattle.std.proofs.Common.{◌≡◌, ℕ, ◌+◌, ◌<◌, ◌≢◌, length, get_or, sym, refl, ap, ◌∙◌, arith, length-set, get_or-set_other, get_or-set_same, below_more}
-use Rattle.books.specs.Books.{start, Placed}
-use Rattle.books.proofs.Fields.{good_head, start_more, start_low}
+use Rattle.std.proofs.Common.{◌<◌, ◌≢◌, length, ◌∙◌, arith, length-set, get_or-set_other, get_or-set_same, below_more}
+use Rattle.books.proofs.Fields.{good_head, start_more}
 use Rattle.books.proofs.open.starts_of.Goals as goal
 
 pub stated_len-requires : goal.stated_len-requires

@@ -1,4 +1,4 @@
-use Rattle.std.proofs.Common.{◌≡◌, ℕ, ◌<◌, length}
+use Rattle.std.proofs.Common.{◌≡◌, length}
 use Rattle.books.specs.Books.{start, Placed}
 use Rattle.books.proofs.open.starts_of.Given as goal
 

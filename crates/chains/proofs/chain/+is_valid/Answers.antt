@@ -1,4 +1,4 @@
-use Rattle.std.proofs.Common.{◌≡◌, ◌-◌, ◌<◌, ◌&&◌, length, take, drop, sym, ap, ◌∙◌, arith, rules}
+use Rattle.std.proofs.Common.{◌-◌, ◌&&◌, length, take, drop, sym, ap, ◌∙◌, rules}
 use Rattle.chains.specs.Search.{is_sound}
 use Rattle.chains.specs.Laws.{recorded}
 use Rattle.chains.proofs.Sound.{sound_none, sound_some}

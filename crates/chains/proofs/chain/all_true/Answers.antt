@@ -1,4 +1,4 @@
-use Rattle.std.proofs.Common.{Bool, sym, ap, ◌∙◌}
+use Rattle.std.proofs.Common.{sym, ap, ◌∙◌}
 use Rattle.grants.specs.declared.Grant.{Grant}
 use Rattle.conditions.specs.Truths.{is_true}
 use Rattle.chains.specs.Search.{condition_of}

@@ -1,4 +1,4 @@
-use Rattle.std.proofs.Common.{Bool, not, eqb, sym, ap}
+use Rattle.std.proofs.Common.{not, eqb, sym, ap}
 use Rattle.std.proofs.lemmas.Bool.{eq-eqb, ne_eqb}
 use Rattle.grants.specs.declared.Grant.{Grant}
 use Rattle.chains.proofs.Lists.{all_more, all_stop, all_done}

@@ -1,5 +1,4 @@
-use Rattle.std.proofs.Common.{◌≡◌, Bool, true, false, ◌&&◌, List, Decides, sym, ap, ◌∙◌, subst}
-use Rattle.grants.specs.declared.Grant.{Grant}
+use Rattle.std.proofs.Common.{◌≡◌, ◌&&◌, Decides, sym, ap, ◌∙◌, subst}
 use Rattle.chains.specs.Chains.{Supports}
 use Rattle.chains.specs.Search.{leads_to, onward_true}
 use Rattle.chains.specs.Laws.{recorded}

@@ -3,18 +3,18 @@ use Rattle.frames.specs.Frames.{condition_length}
 use Rattle.frames.proofs.Books.{room, passed, over}
 use Rattle.frames.proofs.layout.book_len.Goals as goal
 
-pub overflow-add-at : goal.overflow-add-at
-overflow-add-at c = let r = room c.args.bytes.now c.loop-size.at c.loop-size.size c.loop-size.invariant.0 c.loop-size.invariant.2 in search rules
+pub overflow_add-at : goal.overflow_add-at
+overflow_add-at c = let r = room c.args.bytes.now c.loop-size.at c.loop-size.size c.loop-size.invariant.0 c.loop-size.invariant.2 in search rules
 
-pub rest-from-requires : goal.rest-from-requires
-rest-from-requires c = room c.args.bytes.now c.loop-size.at c.loop-size.size c.loop-size.invariant.0 c.loop-size.invariant.2
+pub rest_from-requires : goal.rest_from-requires
+rest_from-requires c = room c.args.bytes.now c.loop-size.at c.loop-size.size c.loop-size.invariant.0 c.loop-size.invariant.2
 
 pub loop-size-smaller : goal.loop-size-smaller
 loop-size-smaller c = let r = room c.args.bytes.now c.loop-size.at c.loop-size.size c.loop-size.invariant.0 c.loop-size.invariant.2 in omega arith
 
 pub loop-size-preserved : goal.loop-size-preserved
 loop-size-preserved c = (
-  c.condition-len-size-in-loop-size.ensures ∙ ap condition_length c.rest-from.ensures,
+  c.condition_len-size-in-loop-size.ensures ∙ ap condition_length c.rest_from.ensures,
   passed c.args.bytes.now c.loop-size.at c.loop-size.size c.loop-size.invariant.0 c.loop-size.invariant.1,
   room c.args.bytes.now c.loop-size.at c.loop-size.size c.loop-size.invariant.0 c.loop-size.invariant.2,
 )

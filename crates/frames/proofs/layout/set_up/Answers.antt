@@ -8,8 +8,8 @@ use Rattle.frames.proofs.layout.set_up.Goals as goal
 
 pub returns : goal.returns
 returns c =
-    let b : Bytes c.args.file.now = All-from_get_or (λ x. x < 256) c.args.file.now 0 (λ i h. (c.type-inv.file i).fits) in
-    let e = c.lay-out.ensures in
+    let b : Bytes c.args.file.now = All-from_get_or (λ x. x < 256) c.args.file.now 0 (λ i h. (c.type_inv.file i).fits) in
+    let e = c.lay_out.ensures in
     record {
       is = e;
       law = subst (Framed c.args.file.now) (sym e) (framed c.args.file.now b);

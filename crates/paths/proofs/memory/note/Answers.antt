@@ -1,4 +1,4 @@
-use Rattle.std.proofs.Common.{◌%◌, ◌<◌, length, get_or, arith, rules}
+use Rattle.std.proofs.Common.{◌%◌, ◌<◌, length, arith, rules}
 use Rattle.std.proofs.lemmas.Nat.{mod_below}
 use Rattle.paths.proofs.Memories.{failed_more}
 use Rattle.paths.proofs.memory.note.Goals as goal

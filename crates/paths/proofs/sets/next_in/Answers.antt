@@ -1,6 +1,6 @@
-use Rattle.std.proofs.Common.{◌≡◌, ℕ, ◌+◌, ◌-◌, ◌/◌, ◌^◌, ◌<◌, ◌≤◌, true, false, sym, ap, ◌∙◌, subst, ⊎_elim, arith}
+use Rattle.std.proofs.Common.{◌≡◌, ◌+◌, ◌-◌, ◌/◌, ◌^◌, ◌<◌, true, sym, ap, ◌∙◌, ⊎_elim, arith}
 use lib.Count.{count_trailing_zeros}
-use Rattle.std.proofs.lemmas.Nat.{shr_le, pow_pos}
+use Rattle.std.proofs.lemmas.Nat.{shr_le}
 use Rattle.std.proofs.lemmas.Bool.{both_ways, cases_lt}
 use Rattle.paths.specs.Sets.{member}
 use Rattle.paths.proofs.Members.{member_shr, member_zero, member_high, zeros_below, zeros_end, zeros_room}

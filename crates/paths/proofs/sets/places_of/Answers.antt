@@ -1,8 +1,8 @@
-use Rattle.std.proofs.Common.{◌≡◌, ℕ, ◌+◌, ◌<◌, Bool, eqb, get_or, sym, ap, ◌∙◌, subst, arith}
+use Rattle.std.proofs.Common.{ℕ, ◌+◌, ◌<◌, Bool, eqb, get_or, sym, ap, ◌∙◌, subst, arith}
 use lib.Bits.{bit_or}
 use Rattle.std.proofs.lemmas.Nat.{one_shl}
 use Rattle.std.proofs.lemmas.Bool.{eq-eqb, ne_eqb}
-use Rattle.paths.proofs.Members.{Marks, marks_in, marks_out, member_zero}
+use Rattle.paths.proofs.Members.{Marks, marks_in, marks_out}
 use Rattle.paths.proofs.sets.places_of.Goals as goal
 use Rattle.paths.proofs.sets.places_of.Goals.{then-other-person, else-other-person}
 

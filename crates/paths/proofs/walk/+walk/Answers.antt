@@ -1,12 +1,12 @@
-use Rattle.std.proofs.Common.{◌≡◌, ℕ, suc, ◌+◌, ◌-◌, ◌<◌, true, List, ◌∷◌, length, get_or, take, drop, sym, refl, ◌∙◌, subst, arith, rules}
+use Rattle.std.proofs.Common.{◌≡◌, ℕ, suc, ◌+◌, ◌-◌, ◌<◌, true, length, get_or, take, drop, sym, refl, ◌∙◌, subst, arith, rules}
 use Rattle.std.proofs.lemmas.List.{length-take, length-drop}
 use lib.Bits.{bit_and}
 use Rattle.std.proofs.lemmas.Bool.{and_parts, eqb-true}
 use Rattle.paths.proofs.Members.{member_and}
 use Rattle.paths.specs.declared.net.Net.{Net}
 use Rattle.paths.specs.Sets.{member}
-use Rattle.paths.specs.Steps.{Steps, First, Never}
-use Rattle.paths.specs.Memories.{Knows, Given, Inside}
+use Rattle.paths.specs.Steps.{First, Never}
+use Rattle.paths.specs.Memories.{Given, Inside}
 use Rattle.paths.proofs.Walks.{ends, first_here, never_from, none_more, none_skip, NoneBelow, written, put_length}
 use Rattle.paths.proofs.Nears.{covers, inside_less}
 use Rattle.paths.proofs.Memories.{never_away, knows_head, knows_rest, knows_put, knows_note}

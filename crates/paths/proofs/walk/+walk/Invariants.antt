@@ -1,4 +1,4 @@
-use Rattle.std.proofs.Common.{◌≡◌, ℕ, ◌-◌, ◌<◌, ◌≤◌, true, length}
+use Rattle.std.proofs.Common.{◌≡◌, ◌-◌, ◌<◌, ◌≤◌, true, length}
 use Rattle.paths.specs.Sets.{member}
 use Rattle.paths.proofs.Walks.{NoneBelow}
 use Rattle.paths.specs.Memories.{Knows}

@@ -1,6 +1,5 @@
-use Rattle.std.proofs.Common.{◌≡◌, ℕ, ◌-◌, ◌<◌, ◌≤◌, length, take, replicate, sym, refl, ap, ◌∙◌, subst, arith}
+use Rattle.std.proofs.Common.{◌≡◌, ℕ, ◌-◌, ◌<◌, ◌≤◌, length, replicate, sym, ◌∙◌, subst, arith}
 use Rattle.std.proofs.lemmas.List.{length-take}
-use Rattle.paths.specs.Steps.{First, Steps}
 use Rattle.paths.proofs.Memories.{fresh, knows_front}
 use Rattle.paths.proofs.Walks.{filled}
 use Rattle.paths.proofs.walk.shortest.Goals as goal

@@ -1,5 +1,4 @@
-use Rattle.std.proofs.Common.{ℕ, ◌+◌, ◌<◌, Bool, true, refl, arith}
-use Rattle.paths.proofs.Members.{Marks, marks_in}
+use Rattle.std.proofs.Common.{true, refl, arith}
 use Rattle.search.proofs.Marked.{marks_shl}
 use Rattle.search.proofs.asked.first_places.Goals as goal
 

@@ -1,4 +1,4 @@
-use Rattle.std.proofs.Common.{◌≡◌, ℕ, ◌+◌, ◌<◌, Bool, sym, ap, ◌∙◌, subst, arith}
+use Rattle.std.proofs.Common.{ℕ, ◌+◌, Bool, sym, ap, ◌∙◌, subst, arith}
 use Rattle.grants.specs.declared.Grant.{Grant}
 use Rattle.paths.proofs.Members.{Marks, marks_out}
 use Rattle.search.specs.Records.{at}

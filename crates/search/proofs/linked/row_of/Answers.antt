@@ -1,4 +1,4 @@
-use Rattle.std.proofs.Common.{◌≡◌, ℕ, ◌+◌, ◌<◌, Bool, get_or, sym, ap, ◌∙◌, subst, arith}
+use Rattle.std.proofs.Common.{ℕ, ◌+◌, Bool, get_or, sym, ◌∙◌, subst, arith}
 use Rattle.paths.specs.Sets.{member}
 use Rattle.paths.proofs.Members.{Marks, marks_out}
 use Rattle.search.proofs.Marked.{marks_shl}

@@ -1,12 +1,11 @@
-use Rattle.std.proofs.Common.{◌≡◌, ℕ, ◌+◌, ◌<◌, true, length, get_or, Decides, sym, ap, ◌∙◌, subst, arith}
+use Rattle.std.proofs.Common.{◌≡◌, ℕ, ◌+◌, ◌<◌, true, length, Decides, sym, subst, arith}
 use Rattle.std.proofs.lemmas.Bool.{both_ways}
 use Rattle.paths.specs.Sets.{member}
 use Rattle.paths.proofs.Members.{member_zero}
-use Rattle.search.specs.Records.{at}
 use Rattle.search.specs.Asked.{ReachedAt, DecidedTo}
 use Rattle.search.proofs.Marked.{decided_none, decided_in, decided_out, rests_more}
 use Rattle.search.proofs.Found.{reached_at}
-use Rattle.search.proofs.Prefix.{usable_enough, usable}
+use Rattle.search.proofs.Prefix.{usable_enough}
 use Rattle.search.proofs.search.reached_places.Goals as goal
 use Rattle.search.proofs.search.reached_places.Goals.{then-is_reached, else-is_reached}
 

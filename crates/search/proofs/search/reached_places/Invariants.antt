@@ -1,4 +1,4 @@
-use Rattle.std.proofs.Common.{◌≡◌, ℕ, ◌<◌, true}
+use Rattle.std.proofs.Common.{◌≡◌, ℕ, true}
 use Rattle.paths.specs.Sets.{member}
 use Rattle.search.specs.Asked.{ReachedAt, DecidedTo}
 use Rattle.search.proofs.search.reached_places.Given as goal

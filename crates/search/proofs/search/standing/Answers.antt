@@ -1,4 +1,4 @@
-use Rattle.std.proofs.Common.{◌≡◌, ℕ, ◌<◌, Bool, true, ◌&&◌, eqb, ltb, leb, length, get_or, sym, ap, ◌∙◌, subst, ⊎_elim}
+use Rattle.std.proofs.Common.{◌≡◌, ℕ, ◌<◌, true, ◌&&◌, eqb, ltb, leb, length, get_or, sym, ap, ◌∙◌, subst, ⊎_elim}
 use Rattle.conditions.specs.Truths.{is_true}
 use Rattle.std.proofs.lemmas.Bool.{and_parts, eqb-true, leb-true, cases_lt, lt-ltb, le-ltb, and_left, and_right}
 use Rattle.chains.specs.declared.chain.Which.TheVariants.{Onward}

@@ -1,4 +1,4 @@
-use Rattle.std.proofs.Common.{◌≡◌, ◌&&◌, sym, ap, ◌∙◌}
+use Rattle.std.proofs.Common.{◌&&◌, ap, ◌∙◌}
 use Rattle.chains.specs.declared.chain.Which.TheVariants.{Onward}
 use Rattle.chains.specs.Search.{stands as stands_on}
 use Rattle.chains.specs.Laws.{recorded}

@@ -6,13 +6,13 @@ use Rattle.sessions.specs.Performing.{Performs}
 use Rattle.sessions.proofs.Draws.{returned, not_returned}
 use Rattle.sessions.proofs.perform.give_back.Goals as goal
 
-pub returns-in-err-give-back : goal.returns-in-err-give-back
-returns-in-err-give-back g c =
-    let p = err_from_is_err_and c.from-residual.result c.from-residual.ensures.1 in
-    subst (λ (r : Result ℕ Fault). Performs g.L.Language.size g.L.Language.says c.args.cabinet.now (Return c.args.caller c.args.hook) r c.give-back.new.self)
+pub returns-in_err-give_back : goal.returns-in_err-give_back
+returns-in_err-give_back g c =
+    let p = err_from_is_err_and c.from_residual.result c.from_residual.ensures.1 in
+    subst (λ (r : Result ℕ Fault). Performs g.L.Language.size g.L.Language.says c.args.cabinet.now (Return c.args.caller c.args.hook) r c.give_back.new.self)
     (sym (p.1 ∙ ap (λ (f : Fault). Err f) p.2))
-    (not_returned g.L.Language.size g.L.Language.says c.args.cabinet.now c.give-back.new.self c.args.caller c.args.hook c.in-err-give-back.ensures.after c.in-err-give-back.field-0.0 c.in-err-give-back.ensures.is)
+    (not_returned g.L.Language.size g.L.Language.says c.args.cabinet.now c.give_back.new.self c.args.caller c.args.hook c.in_err-give_back.ensures.after c.in_err-give_back.field-0.0 c.in_err-give_back.ensures.is)
 
 pub returns : goal.returns
 returns g c =
-    returned g.L.Language.size g.L.Language.says c.args.cabinet.now c.give-back.new.self c.args.caller c.args.hook c.in-ok-give-back.ensures.after tt c.in-ok-give-back.ensures.is
+    returned g.L.Language.size g.L.Language.says c.args.cabinet.now c.give_back.new.self c.args.caller c.args.hook c.in_ok-give_back.ensures.after tt c.in_ok-give_back.ensures.is

@@ -12,7 +12,7 @@ returns-in-Issue g c =
     let says = g.L.Language.says in
     let s = c.args.cabinet.now in
     let i = c.in-Issue in
-    let e = c.terms-of-terms.ensures in
+    let e = c.terms_of-terms.ensures in
     issued size says s c.args.command c.issue.result c.issue.new.self i.caller i.hook i.grantee i.execute i.onward i.mode i.report i.is
     (subst (λ (t : Terms). c.issue.result ≡ told (reply size says s (Issue i.caller i.hook i.grantee t.execute t.onward t.mode t.report))) e c.issue.ensures.is)
     (subst (λ (t : Terms). Follows size says s (Issue i.caller i.hook i.grantee t.execute t.onward t.mode t.report) c.issue.new.self) e c.issue.ensures.after)
@@ -23,7 +23,7 @@ returns-in-Amend g c =
     let says = g.L.Language.says in
     let s = c.args.cabinet.now in
     let i = c.in-Amend in
-    let e = c.terms-of.ensures in
+    let e = c.terms_of.ensures in
     amended size says s c.args.command c.amend.result c.amend.new.self i.caller i.number i.execute i.onward i.mode i.report i.is
     (subst (λ (t : Terms). c.amend.result ≡ told (reply size says s (Amend i.caller i.number t.execute t.onward t.mode t.report))) e c.amend.ensures.is)
     (subst (λ (t : Terms). Follows size says s (Amend i.caller i.number t.execute t.onward t.mode t.report) c.amend.new.self) e c.amend.ensures.after)

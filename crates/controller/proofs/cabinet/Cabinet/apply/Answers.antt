@@ -7,47 +7,47 @@ use Rattle.controller.proofs.cabinet.Cabinet.apply.Goals as goal
 pub returns-in-Fit : goal.returns-in-Fit
 returns-in-Fit g c =
     let s = c.args.self.now in
-    let so = made_so g.L.Language.size g.L.Language.says s _ _ _ _ c.in-Fit.is (c.done-shown.ensures ∙ ap done_shown c.fit.ensures.is ∙ done_told (world s) _ _) c.fit.ensures.after in
+    let so = made_so g.L.Language.size g.L.Language.says s _ _ _ _ c.in-Fit.is (c.done_shown.ensures ∙ ap done_shown c.fit.ensures.is ∙ done_told (world s) _ _) c.fit.ensures.after in
     record { is = so.0; after = so.1 }
 
 pub returns-in-Issue : goal.returns-in-Issue
 returns-in-Issue g c =
     let s = c.args.self.now in
-    let so = made_so g.L.Language.size g.L.Language.says s _ _ _ _ c.in-Issue.is (c.number-shown.ensures ∙ ap number_shown c.issue.ensures.is ∙ number_told (world s) _ _ _) c.issue.ensures.after in
+    let so = made_so g.L.Language.size g.L.Language.says s _ _ _ _ c.in-Issue.is (c.number_shown.ensures ∙ ap number_shown c.issue.ensures.is ∙ number_told (world s) _ _ _) c.issue.ensures.after in
     record { is = so.0; after = so.1 }
 
 pub returns-in-Amend : goal.returns-in-Amend
 returns-in-Amend g c =
     let s = c.args.self.now in
-    let so = made_so g.L.Language.size g.L.Language.says s _ _ _ _ c.in-Amend.is (c.number-shown-in-Amend.ensures ∙ ap number_shown c.amend.ensures.is ∙ number_told (world s) _ _ _) c.amend.ensures.after in
+    let so = made_so g.L.Language.size g.L.Language.says s _ _ _ _ c.in-Amend.is (c.number_shown-in-Amend.ensures ∙ ap number_shown c.amend.ensures.is ∙ number_told (world s) _ _ _) c.amend.ensures.after in
     record { is = so.0; after = so.1 }
 
 pub returns-in-Withdraw : goal.returns-in-Withdraw
 returns-in-Withdraw g c =
     let s = c.args.self.now in
-    let so = made_so g.L.Language.size g.L.Language.says s _ _ _ _ c.in-Withdraw.is (c.orphans-shown.ensures ∙ ap orphans_shown c.withdraw.ensures.is ∙ orphans_told (world s) _ _ _) c.withdraw.ensures.after in
+    let so = made_so g.L.Language.size g.L.Language.says s _ _ _ _ c.in-Withdraw.is (c.orphans_shown.ensures ∙ ap orphans_shown c.withdraw.ensures.is ∙ orphans_told (world s) _ _ _) c.withdraw.ensures.after in
     record { is = so.0; after = so.1 }
 
 pub returns-in-Draw : goal.returns-in-Draw
 returns-in-Draw g c =
     let s = c.args.self.now in
-    let so = made_so g.L.Language.size g.L.Language.says s _ _ _ _ c.in-Draw.is (c.slip-shown.ensures ∙ (λ i. slip_shown (c.draw-slip.ensures.is i) (c.draw-slip.ensures.list i)) ∙ slip_told (world s) _ _ _ _ _ _) c.draw-slip.ensures.after in
+    let so = made_so g.L.Language.size g.L.Language.says s _ _ _ _ c.in-Draw.is (c.slip_shown.ensures ∙ (λ i. slip_shown (c.draw-slip.ensures.is i) (c.draw-slip.ensures.list i)) ∙ slip_told (world s) _ _ _ _ _ _) c.draw-slip.ensures.after in
     record { is = so.0; after = so.1 }
 
 pub returns-in-Take : goal.returns-in-Take
 returns-in-Take g c =
     let s = c.args.self.now in
-    let so = made_so g.L.Language.size g.L.Language.says s _ _ _ _ c.in-Take.is (c.spent-shown.ensures ∙ ap spent_shown c.take.ensures.is ∙ spent_told (world s) _ _ _) c.take.ensures.after in
+    let so = made_so g.L.Language.size g.L.Language.says s _ _ _ _ c.in-Take.is (c.spent_shown.ensures ∙ ap spent_shown c.take.ensures.is ∙ spent_told (world s) _ _ _) c.take.ensures.after in
     record { is = so.0; after = so.1 }
 
 pub returns-in-Leave : goal.returns-in-Leave
 returns-in-Leave g c =
     let s = c.args.self.now in
-    let so = made_so g.L.Language.size g.L.Language.says s _ _ _ _ c.in-Leave.is (c.spent-shown-in-Leave.ensures ∙ ap spent_shown c.leave.ensures.is ∙ spent_told (world s) _ _ _) c.leave.ensures.after in
+    let so = made_so g.L.Language.size g.L.Language.says s _ _ _ _ c.in-Leave.is (c.spent_shown-in-Leave.ensures ∙ ap spent_shown c.leave.ensures.is ∙ spent_told (world s) _ _ _) c.leave.ensures.after in
     record { is = so.0; after = so.1 }
 
 pub returns-in-Return : goal.returns-in-Return
 returns-in-Return g c =
     let s = c.args.self.now in
-    let so = made_so g.L.Language.size g.L.Language.says s _ _ _ _ c.in-Return.is (c.done-shown-in-Return.ensures ∙ ap done_shown c.give-back.ensures.is ∙ done_told (world s) _ _) c.give-back.ensures.after in
+    let so = made_so g.L.Language.size g.L.Language.says s _ _ _ _ c.in-Return.is (c.done_shown-in-Return.ensures ∙ ap done_shown c.give_back.ensures.is ∙ done_told (world s) _ _) c.give_back.ensures.after in
     record { is = so.0; after = so.1 }

@@ -19,33 +19,33 @@ returns g c =
     let report = c.args.report.now in
     let gs = chain size says s.ledger s.loans p h report in
     let ns = reverse (map number_of gs) in
-    let named = c.in-ok-named.ensures.is in
-    let is = draw_named size says s.ledger s.loans p h report c.in-ok-named.named named in
+    let named = c.in_ok-named.ensures.is in
+    let is = draw_named size says s.ledger s.loans p h report c.in_ok-named.named named in
     let long : length gs ≡ length ns = sym (length-reverse (map number_of gs) ∙ length-map gs number_of) in
-    let so = draw_justified size says s.ledger s.loans p h report c.in-ok-named.named named c.happen.new.self _ c.in-ok-happen.ensures.is c.in-ok-happen.ensures.law in
+    let so = draw_justified size says s.ledger s.loans p h report c.in_ok-named.named named c.happen.new.self _ c.in_ok-happen.ensures.is c.in_ok-happen.ensures.law in
     record {
-      is = ap (λ (x : Slip). Ok x) c.hand-out.ensures.is ∙ (λ i. Ok (record { hook = h; person = p; length = (ap (λ (n : Named). n.length) is ∙ long) i })) ∙ sym (ap (λ (x : World × Answer). slip_of x.1) so);
-      list = c.hand-out.ensures.list ∙ ap (λ (n : Named). n.numbers) is ∙ ap (λ n. ns ++ replicate (8 - n) 0) long ∙ sym (ap (λ (x : World × Answer). listed c.args.chain.now x.1) so);
+      is = ap (λ (x : Slip). Ok x) c.hand_out.ensures.is ∙ (λ i. Ok (record { hook = h; person = p; length = (ap (λ (n : Named). n.length) is ∙ long) i })) ∙ sym (ap (λ (x : World × Answer). slip_of x.1) so);
+      list = c.hand_out.ensures.list ∙ ap (λ (n : Named). n.numbers) is ∙ ap (λ n. ns ++ replicate (8 - n) 0) long ∙ sym (ap (λ (x : World × Answer). listed c.args.chain.now x.1) so);
       after = record { language = refl; held = sym (ap (λ (x : World × Answer). x.0) so) };
     }
 
-pub returns-in-err-named : goal.returns-in-err-named
-returns-in-err-named g c =
+pub returns-in_err-named : goal.returns-in_err-named
+returns-in_err-named g c =
     let s = c.args.self.now in
-    let p = err_from_is_err_and c.from-residual.result c.from-residual.ensures.1 in
-    let so = draw_unjustified (g.L.Language.size s.language) (g.L.Language.says s.language) s.ledger s.loans c.args.caller c.args.hook c.args.report.now _ c.in-err-named.ensures.is in
+    let p = err_from_is_err_and c.from_residual.result c.from_residual.ensures.1 in
+    let so = draw_unjustified (g.L.Language.size s.language) (g.L.Language.says s.language) s.ledger s.loans c.args.caller c.args.hook c.args.report.now _ c.in_err-named.ensures.is in
     record {
       is = p.1 ∙ ap (λ (f : Fault). Err f) p.2 ∙ sym (ap (λ (x : World × Answer). slip_of x.1) so);
       list = sym (ap (λ (x : World × Answer). listed c.args.chain.now x.1) so);
       after = record { language = refl; held = sym (ap (λ (x : World × Answer). x.0) so) };
     }
 
-pub returns-in-err-happen : goal.returns-in-err-happen
-returns-in-err-happen g c =
+pub returns-in_err-happen : goal.returns-in_err-happen
+returns-in_err-happen g c =
     let s = c.args.self.now in
-    let p = err_from_is_err_and c.from-residual-in-err-happen.result c.from-residual-in-err-happen.ensures.1 in
-    let so = draw_justified (g.L.Language.size s.language) (g.L.Language.says s.language) s.ledger s.loans c.args.caller c.args.hook c.args.report.now c.in-ok-named.named c.in-ok-named.ensures.is
-    c.happen.new.self _ c.in-err-happen.ensures.is c.in-err-happen.ensures.law in
+    let p = err_from_is_err_and c.from_residual-in_err-happen.result c.from_residual-in_err-happen.ensures.1 in
+    let so = draw_justified (g.L.Language.size s.language) (g.L.Language.says s.language) s.ledger s.loans c.args.caller c.args.hook c.args.report.now c.in_ok-named.named c.in_ok-named.ensures.is
+    c.happen.new.self _ c.in_err-happen.ensures.is c.in_err-happen.ensures.law in
     record {
       is = p.1 ∙ ap (λ (f : Fault). Err f) p.2 ∙ sym (ap (λ (x : World × Answer). slip_of x.1) so);
       list = sym (ap (λ (x : World × Answer). listed c.args.chain.now x.1) so);

@@ -16,15 +16,15 @@ returns g c =
     let s = c.args.self.now in
     let h = c.args.hook in
     let cs = person c.args.caller 2 ∷ real_hook h (owner_in s.ledger h) ∷ [] in
-    let so = done_so s.ledger s.loans c.happen.new.self h Return cs c.happen.result (pass cs _ c.in-ok-check-return.ensures) c.happen.ensures.is c.happen.ensures.law in
+    let so = done_so s.ledger s.loans c.happen.new.self h Return cs c.happen.result (pass cs _ c.in_ok-check_return.ensures) c.happen.ensures.is c.happen.ensures.law in
     record { is = so.0; after = record { language = refl; held = so.1 } }
 
-pub returns-in-err-check-return : goal.returns-in-err-check-return
-returns-in-err-check-return g c =
+pub returns-in_err-check_return : goal.returns-in_err-check_return
+returns-in_err-check_return g c =
     let s = c.args.self.now in
     let h = c.args.hook in
     let w = world s in
     let cs = person c.args.caller 2 ∷ real_hook h (owner_in s.ledger h) ∷ [] in
-    let so = refuses (g.L.Language.size s.language) (g.L.Language.says s.language) w (plain.Return c.args.caller h) done (λ e. refl) c.from-residual.result _ c.from-residual.ensures.1
-    (stopped cs (found (judged h (hook_at w h) Return) ∷ []) _ c.in-err-check-return.ensures) in
+    let so = refuses (g.L.Language.size s.language) (g.L.Language.says s.language) w (plain.Return c.args.caller h) done (λ e. refl) c.from_residual.result _ c.from_residual.ensures.1
+    (stopped cs (found (judged h (hook_at w h) Return) ∷ []) _ c.in_err-check_return.ensures) in
     record { is = so.0; after = record { language = refl; held = so.1 } }

@@ -7,13 +7,13 @@ use Rattle.ledger.specs.Ledgers.{world_with}
 use Rattle.ledger.proofs.Numbers.{below_end}
 use Rattle.ledger.proofs.held.Ledger.add.Goals as goal
 
-pub invariant-of-self : goal.invariant-of-self
-invariant-of-self c =
+pub invariant_of-self : goal.invariant_of-self
+invariant_of-self c =
     let l = c.args.self.now in
     let n = l.last in
     let below = subst (λ m. AllBelow numbers m (held l.grants)) (sym c.requires.next) l.low in
     let added = c.insert.ensures.law below c.requires.room in
-    (l.hooks, (omega (arith, c.requires.left), (subst (AllBelow numbers (n + 1 + 1)) (sym added.1) (below_end numbers (n + 1) (n + 1 + 1) (held l.grants) c.args.grant l.low (omega arith) (omega (arith, c.requires.next))), tt)))
+    record { hooks = l.hooks; spent = omega (arith, c.requires.left); low = subst (AllBelow numbers (n + 1 + 1)) (sym added.1) (below_end numbers (n + 1) (n + 1 + 1) (held l.grants) c.args.grant l.low (omega arith) (omega (arith, c.requires.next))) }
 
 pub returns : goal.returns
 returns c hs =

@@ -25,20 +25,20 @@ returns g c =
     let report = c.args.report.now in
     let s = state_of p None report in
     let o = chain_on_record (g.L.Language.size c.args.language.now) says l p h report in
-    let found : c.chain-for.result ≡ named o =
-    c.chain-for.ensures.is
+    let found : c.chain_for.result ≡ named o =
+    c.chain_for.ensures.is
     ∙ (λ i. cond (is_record (c.rows-rows.ensures i)) (named (least_chain says recorded (c.rows-rows.ensures i) h (c.owner-owner.ensures i) p (c.state-state.ensures i))) None)
     ∙ cond-true _ _ None (is_record_lem l.grants) in
     let is =
-    visit_passed (draw_before p h (owner_in l h) s) _ o c.ok-or.result (c.in-ok-check-visit.ensures ∙ ap (λ k. passed (draw_before p h k s)) c.owner-owner.ensures)
-    (c.ok-or.ensures.value ∙ (λ i. ok_or (found i) (c.at.ensures i))) in
+    visit_passed (draw_before p h (owner_in l h) s) _ o c.ok_or.result (c.in_ok-check_visit.ensures ∙ ap (λ k. passed (draw_before p h k s)) c.owner-owner.ensures)
+    (c.ok_or.ensures.value ∙ (λ i. ok_or (found i) (c.at.ensures i))) in
     record { is = is; short = subst (λ (r : Result Named Fault). IfOk r (λ (n : Named). n.length ≤ 8)) (sym is) (named_short (g.L.Language.size c.args.language.now) says l p h report) }
 
-pub returns-in-err-check-visit : goal.returns-in-err-check-visit
-returns-in-err-check-visit g c =
+pub returns-in_err-check_visit : goal.returns-in_err-check_visit
+returns-in_err-check_visit g c =
     let l = c.args.self.now in
     let s = state_of c.args.caller None c.args.report.now in
     let is =
-    visit_refused (draw_before c.args.caller c.args.hook (owner_in l c.args.hook) s) _ _ c.from-residual.result _ c.from-residual.ensures.1
-    (c.in-err-check-visit.ensures ∙ ap (λ k. passed (draw_before c.args.caller c.args.hook k s)) c.owner-owner.ensures) in
+    visit_refused (draw_before c.args.caller c.args.hook (owner_in l c.args.hook) s) _ _ c.from_residual.result _ c.from_residual.ensures.1
+    (c.in_err-check_visit.ensures ∙ ap (λ k. passed (draw_before c.args.caller c.args.hook k s)) c.owner-owner.ensures) in
     record { is = is; short = subst (λ (r : Result Named Fault). IfOk r (λ (n : Named). n.length ≤ 8)) (sym is) (named_short (g.L.Language.size c.args.language.now) (g.L.Language.says c.args.language.now) l c.args.caller c.args.hook c.args.report.now) }

@@ -22,11 +22,11 @@ returns g c =
     let n = c.args.number in
     let r = held l.grants in
     let q = without numbers n r in
-    let m = c.take-out.new.self in
+    let m = c.take_out.new.self in
     let before = c.standing-before.result in
     let after = c.standing-after.result in
-    let gone = c.unwrap-or-gone.result in
-    let out = c.take-out.ensures in
+    let gone = c.unwrap_or-gone.result in
+    let out = c.take_out.ensures in
     let rows : held m.grants ≡ q = ap (λ (w : World). w.grants) (out []) in
     let few : length r ≤ 96 = omega (arith, length-take l.grants.count l.grants.rows, l.grants.within) in
     let test : Grant → Bool = λ k. stands_in size says l k && not (stands_on size says kept whole (world_with l []) q k) in
@@ -34,7 +34,7 @@ returns g c =
     λ k j e lt.
     let same : k ≡ j = omega arith in
     let was = was_at n r few c.find.result k c.find.ensures.is c.find.ensures.within lt in
-    let pb = ap (λ x. place_before x k) c.unwrap-or-gone.ensures in
+    let pb = ap (λ x. place_before x k) c.unwrap_or-gone.ensures in
     let old : member before (place_before gone k) ≡ stands_in size says l (get_or q k blank) = ap (member before) pb ∙ c.standing-before.ensures _ was.1 ∙ ap (stands_in size says l) (sym was.0) in
     let new : member after k ≡ stands_on size says kept whole (world_with l []) q (get_or q k blank) =
     c.standing-after.ensures k (subst (λ (gs : List Grant). k < length gs) (sym rows) lt)

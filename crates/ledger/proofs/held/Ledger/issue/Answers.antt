@@ -15,9 +15,9 @@ returns g c =
     let l = c.args.self.now in
     let a = c.args in
     let t = a.terms.now in
-    let made = c.grant-by-grant.ensures in
+    let made = c.grant_by-grant.ensures in
     let call = Issue a.caller a.hook a.grantee t.execute t.onward t.mode t.report in
-    let ok = c.in-ok-check-issue.ensures ∙ ap (λ (k : Grant). passed (issue_on size says l k t.report)) made in
+    let ok = c.in_ok-check_issue.ensures ∙ ap (λ (k : Grant). passed (issue_on size says l k t.report)) made in
     record {
       is = λ hs. ap (λ (w : World). Ok w.last) (c.add.ensures hs) ∙ sym (ap (λ (x : World × Answer). told x.1) (performs size says (world_with l hs) call _ ok));
       after = λ hs.
@@ -26,21 +26,21 @@ returns g c =
           ∙ sym (ap (λ (x : World × Answer). x.0) (performs size says (world_with l hs) call _ ok));
     }
 
-pub returns-in-err-check-issue : goal.returns-in-err-check-issue
-returns-in-err-check-issue g c =
+pub returns-in_err-check_issue : goal.returns-in_err-check_issue
+returns-in_err-check_issue g c =
     let size = g.L.Language.size c.args.language.now in
     let says = g.L.Language.says c.args.language.now in
     let l = c.args.self.now in
     let a = c.args in
     let t = a.terms.now in
     let call = Issue a.caller a.hook a.grantee t.execute t.onward t.mode t.report in
-    let no_way = c.in-err-check-issue.ensures ∙ ap (λ (k : Grant). passed (issue_on size says l k t.report)) c.grant-by-grant.ensures in
-    let so = λ (hs : List HookState). refuses size says (world_with l hs) call told (λ e. refl) c.from-residual.result _ c.from-residual.ensures.1 no_way in
+    let no_way = c.in_err-check_issue.ensures ∙ ap (λ (k : Grant). passed (issue_on size says l k t.report)) c.grant_by-grant.ensures in
+    let so = λ (hs : List HookState). refuses size says (world_with l hs) call told (λ e. refl) c.from_residual.result _ c.from_residual.ensures.1 no_way in
     record { is = λ hs. (so hs).0; after = λ hs. (so hs).1 }
 
 pub add-requires : goal.add-requires
 add-requires g c =
     let size = g.L.Language.size c.args.language.now in
     let says = g.L.Language.says c.args.language.now in
-    let free = issue_left size says c.args.self.now c.grant-by-grant.result c.args.terms.now.report _ c.in-ok-check-issue.ensures in
-    record { next = ap (λ (k : Grant). k.number) c.grant-by-grant.ensures; left = free.0; room = free.1 }
+    let free = issue_left size says c.args.self.now c.grant_by-grant.result c.args.terms.now.report _ c.in_ok-check_issue.ensures in
+    record { next = ap (λ (k : Grant). k.number) c.grant_by-grant.ensures; left = free.0; room = free.1 }

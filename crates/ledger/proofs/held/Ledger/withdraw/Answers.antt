@@ -12,18 +12,18 @@ pub returns : goal.returns
 returns g c =
     let size = g.L.Language.size c.args.language.now in
     let says = g.L.Language.says c.args.language.now in
-    let ok = c.in-ok-check-withdraw.ensures ∙ ap (λ (o : Option Grant). passed (withdraw_checks c.args.caller c.args.number (is_some o) (unwrap_or o blank).grantor)) c.get-old.ensures in
+    let ok = c.in_ok-check_withdraw.ensures ∙ ap (λ (o : Option Grant). passed (withdraw_checks c.args.caller c.args.number (is_some o) (unwrap_or o blank).grantor)) c.get-old.ensures in
     let did = λ (hs : List HookState). performs size says (world_with c.args.self.now hs) (Withdraw c.args.caller c.args.number) _ ok in
     record {
       is = λ hs. ap told (c.end.ensures.is hs) ∙ sym (ap (λ (x : World × Answer). told x.1) (did hs));
       after = λ hs. c.end.ensures.after hs ∙ sym (ap (λ (x : World × Answer). x.0) (did hs));
     }
 
-pub returns-in-err-check-withdraw : goal.returns-in-err-check-withdraw
-returns-in-err-check-withdraw g c =
+pub returns-in_err-check_withdraw : goal.returns-in_err-check_withdraw
+returns-in_err-check_withdraw g c =
     let size = g.L.Language.size c.args.language.now in
     let says = g.L.Language.says c.args.language.now in
-    let no_way = c.in-err-check-withdraw.ensures ∙ ap (λ (o : Option Grant). passed (withdraw_checks c.args.caller c.args.number (is_some o) (unwrap_or o blank).grantor)) c.get-old.ensures in
+    let no_way = c.in_err-check_withdraw.ensures ∙ ap (λ (o : Option Grant). passed (withdraw_checks c.args.caller c.args.number (is_some o) (unwrap_or o blank).grantor)) c.get-old.ensures in
     let so = λ (hs : List HookState).
-    refuses size says (world_with c.args.self.now hs) (Withdraw c.args.caller c.args.number) told (λ e. refl) c.from-residual.result _ c.from-residual.ensures.1 no_way in
+    refuses size says (world_with c.args.self.now hs) (Withdraw c.args.caller c.args.number) told (λ e. refl) c.from_residual.result _ c.from_residual.ensures.1 no_way in
     record { is = λ hs. (so hs).0; after = λ hs. (so hs).1 }

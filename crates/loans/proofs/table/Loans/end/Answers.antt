@@ -1,7 +1,7 @@
-use Rattle.std.proofs.Common.{◌≡◌, take, sym, ap, ◌∙◌, subst, arith}
+use Rattle.std.proofs.Common.{sym, ap, ◌∙◌, subst, arith}
 use Rattle.numbered.specs.Rows.{AllBelow}
 use Rattle.numbered.proofs.Laws.{below_without}
-use Rattle.loans.specs.Hooks.{hook_of, state_by, loans_in}
+use Rattle.loans.specs.Hooks.{hook_of, loans_in}
 use Rattle.loans.proofs.Changes.{state_at, ended}
 use Rattle.loans.proofs.table.Loans.end.Goals as goal
 

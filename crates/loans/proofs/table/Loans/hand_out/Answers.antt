@@ -1,9 +1,8 @@
-use Rattle.std.proofs.Common.{◌≡◌, ℕ, ◌<◌, List, length, get_or, take, set, Some, sym, ap, ◌∙◌, subst, arith, length-set, get_or-take}
+use Rattle.std.proofs.Common.{sym, ap, ◌∙◌, subst, length-set, get_or-take}
 use lib.Seq.{take-set-lt}
-use Rattle.numbered.specs.Rows.{Rises, AllBelow, place_of}
+use Rattle.numbered.specs.Rows.{Rises, AllBelow}
 use Rattle.numbered.proofs.Laws.{rises_set, below_set}
 use Rattle.loans.specs.declared.table.Loan.{Loan}
-use Rattle.loans.specs.declared.table.Loans.{Loans}
 use Rattle.loans.specs.Hooks.{hook_of, loans_in, went_out}
 use Rattle.loans.proofs.Changes.{state_at, handed, unmoved}
 use Rattle.loans.proofs.table.Loans.hand_out.Goals as goal

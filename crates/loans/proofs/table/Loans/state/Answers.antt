@@ -1,4 +1,4 @@
-use Rattle.std.proofs.Common.{◌≡◌, sym, ap, ◌∙◌, get_or-take}
+use Rattle.std.proofs.Common.{sym, ap, ◌∙◌, get_or-take}
 use Rattle.numbered.proofs.Laws.{row_none}
 use Rattle.loans.specs.declared.table.Loan.{Loan}
 use Rattle.loans.specs.Hooks.{hook_of, where_lent, state_by, loans_in}

@@ -1,8 +1,7 @@
-use Rattle.std.proofs.Common.{◌≡◌, ℕ, ◌<◌, ◌≤◌, min, true, eqb, length, get_or, sym, ap, ◌∙◌, subst, arith, rules}
+use Rattle.std.proofs.Common.{◌≡◌, ◌<◌, min, true, eqb, get_or, sym, ap, ◌∙◌, subst, arith}
 use Rattle.paths.specs.Sets.{member}
 use lib.Bits.{bit_and, bit_xor}
 use Rattle.paths.specs.Steps.{Shortest}
-use Rattle.paths.specs.Chains.{Best}
 use Rattle.paths.proofs.Chains.{best_from}
 use Rattle.paths.proofs.plan.Plan.best.Goals as goal
 

@@ -1,4 +1,4 @@
-use Rattle.std.proofs.Common.{◌≡◌, length, is_some, sym, ap, ◌∙◌, arith}
+use Rattle.std.proofs.Common.{length, is_some, ap, ◌∙◌, arith}
 use Rattle.std.proofs.lemmas.Bool.{lt-leb}
 use Rattle.numbered.specs.Answers.{answer_to, after_insertion}
 use Rattle.numbered.proofs.Laws.{kept_unless_added, none_above, put_laws}

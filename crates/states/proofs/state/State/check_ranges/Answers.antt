@@ -1,5 +1,5 @@
-use Rattle.std.proofs.Common.{◌≡◌, ℕ, ◌-◌, Err, sym, refl, ap, ◌∙◌, subst, arith, below_more}
-use Rattle.states.specs.Ranges.{out_at, check_from, Ranged}
+use Rattle.std.proofs.Common.{◌≡◌, ◌-◌, Err, sym, ap, ◌∙◌, arith, below_more}
+use Rattle.states.specs.Ranges.{check_from}
 use Rattle.states.proofs.Checks.{refused_here, refused_later, in_at, out_at_lem, all_in}
 use Rattle.states.proofs.state.State.check_ranges.Goals as goal
 
