@@ -1,6 +1,6 @@
 -- Laws of the words on lists.
 use Rattle.std.proofs.Common.{◌≡◌, ℕ, zero, suc, ◌+◌, ◌<◌, ◌≤◌, Bool, true, false, cond, ◌⊎◌, List, [], ◌∷◌, ◌++◌, map, length, get_or, take, Some, None, Decides, sym, refl, ap, ◌∙◌, subst, inl, inr, ⊎_elim, add-one, arith}
-use Rattle.std.specs.List.{AllByRecursion as All}
+use Rattle.std.specs.List.{AllByRecursion}
 use Rattle.std.proofs.lemmas.List.{take_all}
 use Rattle.std.proofs.lemmas.Bool.{true≢false, both_ways, and_parts, and_from, and_left, and_right, or_left, or_right, or_cases}
 use Rattle.chains.specs.Lists.{In, Sorted, every, any, keep_if, first_of}
@@ -20,12 +20,12 @@ module _ {X : Type 0} where
   in_right x [] ys h = h
   in_right x (a ∷ xs) ys h = inr (in_right x xs ys h)
 
-  pub all_in : (P : X → Type 0) (xs : List X) → All P xs → (x : X) → In x xs → P x
+  pub all_in : (P : X → Type 0) (xs : List X) → AllByRecursion P xs → (x : X) → In x xs → P x
   all_in P [] h x i = absurd i
   all_in P (a ∷ xs) h x (inl e) = subst P e h.0
   all_in P (a ∷ xs) h x (inr i) = all_in P xs h.1 x i
 
-  pub in_all : (P : X → Type 0) (xs : List X) → ((x : X) → In x xs → P x) → All P xs
+  pub in_all : (P : X → Type 0) (xs : List X) → ((x : X) → In x xs → P x) → AllByRecursion P xs
   in_all P [] f = tt
   in_all P (a ∷ xs) f = (f a (inl refl), in_all P xs (λ x i. f x (inr i)))
 
@@ -57,7 +57,7 @@ module _ {X : Type 0} where
   in_any t (a ∷ xs) x (inl i) e = or_left (t a) (any t xs) (ap t i ∙ e)
   in_any t (a ∷ xs) x (inr i) e = or_right (t a) (any t xs) (in_any t xs x i e)
 
-  pub decides_all : (t : X → Bool) (P : X → Type 0) → ((x : X) → Decides (t x) (P x)) → (xs : List X) → Decides (every t xs) (All P xs)
+  pub decides_all : (t : X → Bool) (P : X → Type 0) → ((x : X) → Decides (t x) (P x)) → (xs : List X) → Decides (every t xs) (AllByRecursion P xs)
   decides_all t P d [] = (λ _. tt, λ _. refl)
   decides_all t P d (a ∷ xs) = (λ h. let p = and_parts (t a) (every t xs) h in ((d a).0 p.0, (decides_all t P d xs).0 p.1), λ h. and_from (t a) (every t xs) ((d a).1 h.0) ((decides_all t P d xs).1 h.1))
 

@@ -1,6 +1,6 @@
 -- The listed chains are just the valid ones, in order; standing and the least chain are decided by them.
 use Rattle.std.proofs.Common.{◌≡◌, ℕ, zero, suc, ◌+◌, ◌-◌, ◌<◌, ◌≤◌, Bool, true, false, cond, not, ◌&&◌, eqb, leb, List, [], ◌∷◌, map, length, get_or, take, drop, Some, None, Decides, sym, refl, ap, ◌∙◌, subst, inl, inr, ⊎_elim, arith}
-use Rattle.std.specs.List.{AllByRecursion as All}
+use Rattle.std.specs.List.{AllByRecursion}
 use Rattle.std.proofs.lemmas.Bool.{true≢false, and_parts, and_from, le-leb, leb-true, eq-eqb, eqb-true}
 use Rattle.std.proofs.lemmas.List.{take_all}
 use Rattle.std.proofs.lemmas.Bool.Decides.{Decides-eqb, Decides-not, Decides-and}
@@ -19,7 +19,7 @@ use Rattle.chains.proofs.Lists.{in_append, in_left, in_right, all_in, in_all, ke
 -- g may follow c
 module _ (means : ℕ → State → Truth) (st : Grant → State) where
   abbrev pub Follows : ℕ → ℕ → List Grant → Grant → Type 0
-  Follows h o c g = (g.hook ≡ h) × ((g.grantor ≡ end o c) × ((g.grantee ≡ o → ⊥) × (All (λ (b : Grant). b.grantee ≡ g.grantee → ⊥) c × AllOnward means c (st g))))
+  Follows h o c g = (g.hook ≡ h) × ((g.grantor ≡ end o c) × ((g.grantee ≡ o → ⊥) × (AllByRecursion (λ (b : Grant). b.grantee ≡ g.grantee → ⊥) c × AllOnward means c (st g))))
 
 pub decides_is_true : (t : Truth) → Decides (is_true t) (t ≡ True)
 decides_is_true True = (λ _. refl, λ _. refl)

@@ -1,6 +1,6 @@
 -- Chains over other records and by other states; what taking grants out leaves.
 use Rattle.std.proofs.Common.{◌≡◌, ℕ, ◌≤◌, ◌||◌, ltb, List, [], ◌∷◌, length, sym, refl, ◌∙◌, subst, inl, inr, arith}
-use Rattle.std.specs.List.{AllByRecursion as All}
+use Rattle.std.specs.List.{AllByRecursion}
 use Rattle.conditions.specs.declared.truth.Truth.{Truth}
 use Rattle.states.specs.declared.state.State.{State}
 use Rattle.grants.specs.declared.Grant.{Grant}
@@ -28,15 +28,15 @@ chain_in r h o (b ∷ c) p x g (inl e) = subst (λ b. In b r) e x.0
 chain_in r h o (b ∷ c) p x g (inr i) = chain_in r h o c b.grantor x.4 g i
 
 -- whom neither the owner nor a grant reaches, nobody is
-ends_elsewhere : (r : List Grant) (h o : ℕ) (c : List Grant) (p q : ℕ) → (p ≡ o → ⊥) → All (λ (b : Grant). b.grantee ≡ p → ⊥) c → Chain r h o c q → q ≡ p → ⊥
+ends_elsewhere : (r : List Grant) (h o : ℕ) (c : List Grant) (p q : ℕ) → (p ≡ o → ⊥) → AllByRecursion (λ (b : Grant). b.grantee ≡ p → ⊥) c → Chain r h o c q → q ≡ p → ⊥
 ends_elsewhere r h o [] p q n a x e = n (sym e ∙ x.0)
 ends_elsewhere r h o (b ∷ c) p q n a x e = a.0 (x.2 ∙ e)
 
-gives_none : (r : List Grant) (h o : ℕ) (c : List Grant) (p q : ℕ) → (p ≡ o → ⊥) → All (λ (b : Grant). b.grantee ≡ p → ⊥) c → Chain r h o c q → All (λ (b : Grant). b.grantor ≡ p → ⊥) c
+gives_none : (r : List Grant) (h o : ℕ) (c : List Grant) (p q : ℕ) → (p ≡ o → ⊥) → AllByRecursion (λ (b : Grant). b.grantee ≡ p → ⊥) c → Chain r h o c q → AllByRecursion (λ (b : Grant). b.grantor ≡ p → ⊥) c
 gives_none r h o [] p q n a x = tt
 gives_none r h o (b ∷ c) p q n a x = (ends_elsewhere r h o c p b.grantor n a.1 x.4, gives_none r h o c p b.grantor n a.1 x.4)
 
-pub not_own : (r : List Grant) (h o : ℕ) (c : List Grant) (p : ℕ) → Chain r h o c p → All (λ (g : Grant). g.grantor ≡ p → ⊥) c
+pub not_own : (r : List Grant) (h o : ℕ) (c : List Grant) (p : ℕ) → Chain r h o c p → AllByRecursion (λ (g : Grant). g.grantor ≡ p → ⊥) c
 not_own r h o [] p x = tt
 not_own r h o (g ∷ c) p x = (ends_elsewhere r h o c p g.grantor x.3.0 x.3.1 x.4, gives_none r h o c p g.grantor x.3.0 x.3.1 x.4)
 
@@ -46,15 +46,15 @@ module _ {count : ℕ} {means : ℕ → State → Truth} (lawful : Lawful count 
   onward_more s t range more [] a = tt
   onward_more s t range more (g ∷ c) a = (true_stays (lawful.steady g.onward s t range more) a.0, onward_more s t range more c a.1)
 
-  pub valid_more : (st su : Grant → State) (c : List Grant) → All (λ (g : Grant). InRange (su g) × ToldMore (st g) (su g)) c → Valid means st c → Valid means su c
+  pub valid_more : (st su : Grant → State) (c : List Grant) → AllByRecursion (λ (g : Grant). InRange (su g) × ToldMore (st g) (su g)) c → Valid means st c → Valid means su c
   valid_more st su [] m v = tt
   valid_more st su (g ∷ c) m v = (valid_more st su c m.1 v.0, onward_more (st g) (su g) m.0.0 m.0.1 c v.1)
 
-told : (set : ℕ) (c : List Grant) → All (λ (g : Grant). InRange g.state) c → All (λ (g : Grant). InRange g.state × ToldMore (kept set g.state) g.state) c
+told : (set : ℕ) (c : List Grant) → AllByRecursion (λ (g : Grant). InRange g.state) c → AllByRecursion (λ (g : Grant). InRange g.state × ToldMore (kept set g.state) g.state) c
 told set [] a = tt
 told set (g ∷ c) a = ((a.0, only_less (λ v. ltb v 2 || names set v) g.state), told set c a.1)
 
-pub kept_then_whole : (count : ℕ) (means : ℕ → State → Truth) → Lawful count means → (set : ℕ) (c : List Grant) → All (λ (g : Grant). InRange g.state) c → Valid means (λ g. kept set g.state) c → Valid means recorded c
+pub kept_then_whole : (count : ℕ) (means : ℕ → State → Truth) → Lawful count means → (set : ℕ) (c : List Grant) → AllByRecursion (λ (g : Grant). InRange g.state) c → Valid means (λ g. kept set g.state) c → Valid means recorded c
 kept_then_whole count means lawful set c range v = valid_more lawful (λ g. kept set g.state) recorded c (told set c range) v
 
 module _ (means : ℕ → State → Truth) (st : Grant → State) (own : ℕ → ℕ) where

@@ -1,7 +1,7 @@
 -- The definitions and their wording are the same.
 use Rattle.std.proofs.Common.{◌≡◌, ℕ, ◌<◌, List, [], ◌∷◌, ◌++◌, map, length, sym, refl, ap, ◌∙◌, subst, inl, inr, ⊎_elim, arith}
 use mathlib.Core.List.{head-eq_of_cons-eq, tail-eq_of_cons-eq, nil≢cons, cons≢nil}
-use Rattle.std.specs.List.{AllByRecursion as All}
+use Rattle.std.specs.List.{AllByRecursion}
 use Rattle.conditions.specs.declared.truth.Truth.{Truth}
 use Rattle.states.specs.declared.state.State.{State}
 use Rattle.grants.specs.declared.Grant.{Grant}
@@ -16,11 +16,11 @@ differ x y = x ≡ y → ⊥
 abbrev to : Grant → ℕ
 to g = g.grantee
 
-fresh : (p o : ℕ) (c : List Grant) → (p ≡ o → ⊥) → All (λ (b : Grant). b.grantee ≡ p → ⊥) c → All (differ p) (map to c ++ (o ∷ []))
+fresh : (p o : ℕ) (c : List Grant) → (p ≡ o → ⊥) → AllByRecursion (λ (b : Grant). b.grantee ≡ p → ⊥) c → AllByRecursion (differ p) (map to c ++ (o ∷ []))
 fresh p o [] n a = (n, tt)
 fresh p o (g ∷ c) n a = (λ e. a.0 (sym e), fresh p o c n a.1)
 
-unfresh : (p o : ℕ) (c : List Grant) → All (differ p) (map to c ++ (o ∷ [])) → (p ≡ o → ⊥) × All (λ (b : Grant). b.grantee ≡ p → ⊥) c
+unfresh : (p o : ℕ) (c : List Grant) → AllByRecursion (differ p) (map to c ++ (o ∷ [])) → (p ≡ o → ⊥) × AllByRecursion (λ (b : Grant). b.grantee ≡ p → ⊥) c
 unfresh p o [] a = (a.0, tt)
 unfresh p o (g ∷ c) a = let k = unfresh p o c a.1 in (k.0, (λ e. a.0 (sym e), k.1))
 
@@ -46,14 +46,14 @@ module _ (r : List Grant) (h o : ℕ) where
         next = elim [ [] ↦ λ b k g e. sym (ap (λ (b : Grant). b.grantor) (head-eq_of_cons-eq e)) ∙ sym (w.last b g (tail-eq_of_cons-eq e)) | d ∷ l ↦ λ b k g e. w.next l b k g (tail-eq_of_cons-eq e) ];
         last = λ b g e. sym (ap to (head-eq_of_cons-eq e)) ∙ x.2;
         empty = λ e. absurd (cons≢nil e);
-        once = (subst (λ q. All (differ q) (map to c ++ (o ∷ []))) (sym x.2) (fresh p o c x.3.0 x.3.1), w.once);
+        once = (subst (λ q. AllByRecursion (differ q) (map to c ++ (o ∷ []))) (sym x.2) (fresh p o c x.3.0 x.3.1), w.once);
       }
 
   back : (c : List Grant) (p : ℕ) → InWords r h o c p → Chain r h o c p
   back [] p w = (w.empty refl, w.owned)
   back (a ∷ c) p w =
       let e = w.last c a refl in
-      let f = unfresh p o c (subst (λ q. All (differ q) (map to c ++ (o ∷ []))) e w.once.0) in (
+      let f = unfresh p o c (subst (λ q. AllByRecursion (differ q) (map to c ++ (o ∷ []))) e w.once.0) in (
         w.recorded a (inl refl),
         w.one_hook a (inl refl),
         e,

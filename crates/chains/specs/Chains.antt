@@ -1,7 +1,7 @@
 -- Chains of grants, and what they justify. A chain is a list of grants, the newest first, so that the grants before one are
 -- those behind it in the list.
 use Rattle.std.specs.Prelude.{◌≡◌, ℕ, ◌≤◌, List, [], ◌∷◌, length, ◌≢◌}
-use Rattle.std.specs.List.{AllByRecursion as All}
+use Rattle.std.specs.List.{AllByRecursion}
 use Rattle.states.specs.declared.state.State.{State}
 use Rattle.grants.specs.declared.Grant.{Grant}
 use Rattle.conditions.specs.declared.truth.Truth.{Truth}
@@ -17,16 +17,16 @@ Person p = (1 ≤ p) × (p ≤ 200)
 -- it is a chain to that grant's grantor
 abbrev pub Chain : List Grant → ℕ → ℕ → List Grant → ℕ → Type 0
 Chain r h o [] p = (p ≡ o) × Person o
-Chain r h o (g ∷ c) p = In g r × (g.hook ≡ h) × (g.grantee ≡ p) × ((p ≢ o) × All (λ (b : Grant). b.grantee ≢ p) c) × Chain r h o c g.grantor
+Chain r h o (g ∷ c) p = In g r × (g.hook ≡ h) × (g.grantee ≡ p) × ((p ≢ o) × AllByRecursion (λ (b : Grant). b.grantee ≢ p) c) × Chain r h o c g.grantor
 
 module _ (means : ℕ → State → Truth) where
   -- each grant condition is true of the state
   abbrev pub AllOnward : List Grant → State → Type 0
-  AllOnward c s = All (λ (k : Grant). means k.onward s ≡ True) c
+  AllOnward c s = AllByRecursion (λ (k : Grant). means k.onward s ≡ True) c
 
   -- each execute condition is true of the state
   abbrev pub AllExecute : List Grant → State → Type 0
-  AllExecute c s = All (λ (k : Grant). means k.execute s ≡ True) c
+  AllExecute c s = AllByRecursion (λ (k : Grant). means k.execute s ≡ True) c
 
   -- st tells by which state a grant is judged
   module _ (st : Grant → State) where

@@ -1,6 +1,6 @@
 -- The laws of chains, over every meaning of the conditions, and every state by which a grant is judged.
 use Rattle.std.specs.Prelude.{◌≡◌, ℕ, ◌≤◌, List, length, Some, None, Decides, ◌≢◌}
-use Rattle.std.specs.List.{AllByRecursion as All}
+use Rattle.std.specs.List.{AllByRecursion}
 use Rattle.states.specs.declared.state.State.{State}
 use Rattle.states.specs.States.{InRange, kept}
 use Rattle.grants.specs.declared.Grant.{Grant}
@@ -41,7 +41,7 @@ pub record DrawLaws : Type 0 where
       → Same (least_chain means st r h o p s ≡ Some c) (Least means st r h o p s c)
   -- a chain that is valid by the kept states is valid by the whole states, in every lawful language
   pub kept_then_whole : (count : ℕ) (means : ℕ → State → Truth) → Lawful count means → (set : ℕ) (c : List Grant)
-      → All (λ (g : Grant). InRange g.state) c → Valid means (λ g. kept set g.state) c → Valid means recorded c
+      → AllByRecursion (λ (g : Grant). InRange g.state) c → Valid means (λ g. kept set g.state) c → Valid means recorded c
 
 -- what a grant may rely on
 pub record GrantLaws : Type 0 where
@@ -57,4 +57,4 @@ pub record GrantLaws : Type 0 where
   pub same_serving : (means : ℕ → State → Truth) (st : Grant → State) (own : ℕ → ℕ) (r q : List Grant) → Rid means st own r q
       → (h p : ℕ) (s : State) (c : List Grant) → Same (Serves means st r h (own h) p s c) (Serves means st q h (own h) p s c)
   -- no chain to a person has a grant by that person
-  pub not_own : (r : List Grant) (h o : ℕ) (c : List Grant) (p : ℕ) → Chain r h o c p → All (λ (g : Grant). g.grantor ≢ p) c
+  pub not_own : (r : List Grant) (h o : ℕ) (c : List Grant) (p : ℕ) → Chain r h o c p → AllByRecursion (λ (g : Grant). g.grantor ≢ p) c

@@ -1,6 +1,6 @@
 -- Words on lists.
 use Rattle.std.specs.Prelude.{◌≡◌, Bool, true, false, cond, ◌&&◌, ◌||◌, ◌⊎◌, List, [], ◌∷◌, Some, None, Option}
-use Rattle.std.specs.List.{AllByRecursion as All}
+use Rattle.std.specs.List.{AllByRecursion}
 
 -- x stands in the list
 abbrev pub In : {X : Type 0} → X → List X → Type 0
@@ -10,7 +10,7 @@ In x (y ∷ ys) = (y ≡ x) ⊎ In x ys
 -- each earlier one stands in R to each later one
 abbrev pub Sorted : {X : Type 0} → (X → X → Type 0) → List X → Type 0
 Sorted R [] = Unit {0}
-Sorted R (x ∷ xs) = All (R x) xs × Sorted R xs
+Sorted R (x ∷ xs) = AllByRecursion (R x) xs × Sorted R xs
 
 -- every one passes the test, some one does
 abbrev pub every : {X : Type 0} → (X → Bool) → List X → Bool

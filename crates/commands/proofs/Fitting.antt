@@ -1,7 +1,7 @@
 -- A value says something exactly if it is of the kind of its tag.
 use Rattle.std.proofs.Common.{◌≡◌, ℕ, ◌<◌, Bool, true, false, cond, eqb, ltb, List, [], ◌∷◌, length, is_some, Some, None, Option, sym, refl, ap, ◌∙◌, subst, arith}
 use Rattle.std.specs.Option.{option_map}
-use Rattle.std.specs.List.{ContainsAt as Has, AllByRecursion as All}
+use Rattle.std.specs.List.{ContainsAt as Has, AllByRecursion}
 use Rattle.std.proofs.ByRecursion.{all-has, all_has_itself, All-weaker}
 use Rattle.std.proofs.lemmas.Bool.{ltb-true, lt-ltb}
 use Rattle.command_words.specs.Format.{Kind, kind_of}
@@ -46,13 +46,13 @@ module _ (F : ℕ → Said) where
   four_fits (x ∷ y ∷ z ∷ w ∷ u ∷ r) = fails (λ e. omega arith)
 
 -- letters
-pub verb_only : (l : ℕ) → All (λ k. eqb l k ≡ false) (73 ∷ 65 ∷ 87 ∷ 68 ∷ 82 ∷ []) → verb_named l ≡ None
+pub verb_only : (l : ℕ) → AllByRecursion (λ k. eqb l k ≡ false) (73 ∷ 65 ∷ 87 ∷ 68 ∷ 82 ∷ []) → verb_named l ≡ None
 verb_only l o = rw (o.0, o.1.0, o.1.1.0, o.1.1.1.0, o.1.1.1.1.0)
 
-pub mode_only : (l : ℕ) → All (λ k. eqb l k ≡ false) (69 ∷ 82 ∷ []) → mode_named l ≡ None
+pub mode_only : (l : ℕ) → AllByRecursion (λ k. eqb l k ≡ false) (69 ∷ 82 ∷ []) → mode_named l ≡ None
 mode_only l o = rw (o.0, o.1.0)
 
-pub outcome_only : (l : ℕ) → All (λ k. eqb l k ≡ false) (84 ∷ 76 ∷ []) → outcome_named l ≡ None
+pub outcome_only : (l : ℕ) → AllByRecursion (λ k. eqb l k ≡ false) (84 ∷ 76 ∷ []) → outcome_named l ≡ None
 outcome_only l o = rw (o.0, o.1.0)
 
 -- a letter that names something is its letter
@@ -66,7 +66,7 @@ module _ {X : Type 0} (named : ℕ → Option X) (letterOf : X → ℕ) (again :
       let r : y ≡ x = cc in
       ap letterOf r
 
-  pub named_letter : (letters : List ℕ) → All (λ k. (y : X) × (letterOf y ≡ k)) letters → ((l : ℕ) → All (λ k. eqb l k ≡ false) letters → named l ≡ None) → (l : ℕ) → Lettered l
+  pub named_letter : (letters : List ℕ) → AllByRecursion (λ k. (y : X) × (letterOf y ≡ k)) letters → ((l : ℕ) → AllByRecursion (λ k. eqb l k ≡ false) letters → named l ≡ None) → (l : ℕ) → Lettered l
   named_letter letters each only l =
       by_tags Lettered l letters
       (All-weaker (λ k. (y : X) × (letterOf y ≡ k)) Lettered (λ k p. subst Lettered p.1 (lettered p.0)) letters each)
@@ -76,8 +76,8 @@ is_mapped : {X : Type 0} (F : X → Said) (o : Option X) → is_some (option_map
 is_mapped F None = refl
 is_mapped F (Some x) = refl
 
-module _ {X : Type 0} (F : X → Said) (named : ℕ → Option X) (letters : List ℕ) (known : All (λ l. is_some (named l) ≡ true) letters)
-    (only : (l : ℕ) → All (λ k. eqb l k ≡ false) letters → named l ≡ None) where
+module _ {X : Type 0} (F : X → Said) (named : ℕ → Option X) (letters : List ℕ) (known : AllByRecursion (λ l. is_some (named l) ≡ true) letters)
+    (only : (l : ℕ) → AllByRecursion (λ k. eqb l k ≡ false) letters → named l ≡ None) where
   named_has : (l : ℕ) → is_some (named l) ≡ true → Has letters l
   named_has l =
       by_tags (λ k. is_some (named k) ≡ true → Has letters k) l letters

@@ -1,7 +1,7 @@
 -- The command that fields make, and the field that is missing where they make none.
 use Rattle.std.proofs.Common.{◌≡◌, ℕ, true, false, cond, eqb, ◌⊎◌, List, [], ◌∷◌, ◌++◌, is_some, Some, None, Option, unwrap_or, sym, refl, ap, ◌∙◌, subst, inl, inr, ⊎_elim}
 use Rattle.std.specs.Option.{option_map, option_or}
-use Rattle.std.specs.List.{ContainsAt as Has, AllByRecursion as All}
+use Rattle.std.specs.List.{ContainsAt as Has, AllByRecursion}
 use Rattle.std.proofs.ByRecursion.{all-has}
 use Rattle.std.proofs.lemmas.Bool.{cases_Bool, cond-true, cond-false}
 use Rattle.states.specs.declared.report.Report.{Report}
@@ -295,7 +295,7 @@ SaidAt fs t = says fs t ≡ None → ⊥
 said_at : (fs : List Field) (t : ℕ) (v : List ℕ) → says fs t ≡ Some v → SaidAt fs t
 said_at fs t v e n = none_some (sym n ∙ e)
 
-pub made_tags : (fs : List Field) (made : Command) → Makes fs made → (says fs 1 ≡ Some (verb_letter (verb_of made) ∷ [])) × All (SaidAt fs) (tags_of (verb_of made))
+pub made_tags : (fs : List Field) (made : Command) → Makes fs made → (says fs 1 ≡ Some (verb_letter (verb_of made) ∷ [])) × AllByRecursion (SaidAt fs) (tags_of (verb_of made))
 made_tags fs (commands.Issue c h g x y m r) (t8, (t7, (t6, (t5, (t4, (t3, (t2, (t1, done)))))))) =
     (t1, (said_at fs 1 _ t1, (said_at fs 2 _ t2, (said_at fs 3 _ t3, (said_at fs 4 _ t4, (said_at fs 5 _ t5, (said_at fs 6 _ t6, (said_at fs 7 _ t7, (said_at fs 8 _ t8, tt)))))))))
 made_tags fs (commands.Amend c x y m r n) (t10, (t8, (t7, (t6, (t5, (t2, (t1, done))))))) =

@@ -1,7 +1,7 @@
 -- Fields that pass the tests keep the rules, and the other way round.
 use Rattle.std.proofs.Common.{◌≡◌, ℕ, true, false, eqb, ltb, List, [], ◌∷◌, is_some, Some, None, Option, sym, refl, ap, ◌∙◌, subst, ⊎_elim}
 use Rattle.std.specs.Option.{option_map}
-use Rattle.std.specs.List.{ContainsAt as Has, AllByRecursion as All}
+use Rattle.std.specs.List.{ContainsAt as Has, AllByRecursion}
 use Rattle.std.proofs.ByRecursion.{all-has, all_has_itself, All-weaker}
 use Rattle.std.proofs.lemmas.Bool.{cases_Bool, ltb-true, lt-ltb, eqb-true, eqb-false, eq-eqb, and_parts, and_cases, cond-true, cond-false}
 use Rattle.command_words.specs.declared.Verb.{Verb}
@@ -66,14 +66,14 @@ any_mine x xs = cond-true (eqb x x) true (any xs x) (eq-eqb x x refl)
 any_more : (x y : ℕ) (xs : List ℕ) → any xs y ≡ true → any (x ∷ xs) y ≡ true
 any_more x y xs e = ⊎_elim (λ h. cond-true (eqb y x) true (any xs y) h) (λ h. cond-false (eqb y x) true (any xs y) h ∙ e) (cases_Bool (eqb y x))
 
-any_all : (xs : List ℕ) → All (λ t. any xs t ≡ true) xs
+any_all : (xs : List ℕ) → AllByRecursion (λ t. any xs t ≡ true) xs
 any_all [] = tt
 any_all (x ∷ xs) = (any_mine x xs, All-weaker (λ t. any xs t ≡ true) (λ t. any (x ∷ xs) t ≡ true) (λ t e. any_more x t xs e) xs (any_all xs))
 
 pub has_any : (xs : List ℕ) (t : ℕ) → Has xs t → any xs t ≡ true
 has_any xs t h = all-has (λ t. any xs t ≡ true) xs t (any_all xs) h
 
-none_any : (xs : List ℕ) (t : ℕ) → All (λ k. eqb t k ≡ false) xs → any xs t ≡ false
+none_any : (xs : List ℕ) (t : ℕ) → AllByRecursion (λ k. eqb t k ≡ false) xs → any xs t ≡ false
 none_any [] t o = refl
 none_any (x ∷ xs) t o = cond-false (eqb t x) true (any xs t) o.0 ∙ none_any xs t o.1
 

@@ -1,6 +1,6 @@
 -- Values and the bytes that spell them.
 use Rattle.std.proofs.Common.{◌≡◌, ℕ, zero, suc, ◌+◌, ◌*◌, ◌/◌, ◌%◌, ◌<◌, ◌⊎◌, List, [], ◌∷◌, ◌++◌, length, Some, None, Option, sym, refl, ap, ◌∙◌, subst, ⊎_elim, append-nil, div-add-mod', arith}
-use Rattle.std.specs.List.{AllByRecursion as All}
+use Rattle.std.specs.List.{AllByRecursion}
 use Rattle.std.proofs.lemmas.Bool.{cases_order}
 use Rattle.states.specs.declared.report.Report.{Report}
 use Rattle.command_words.specs.Format.{pair_of, quad_of, entry_of, entries}
@@ -9,7 +9,7 @@ use Rattle.commands.specs.Law.{Entries}
 use Rattle.commands.proofs.Tags.{none_some}
 
 abbrev pub Bytes : List ℕ → Type 0
-Bytes xs = All (λ b. b < 256) xs
+Bytes xs = AllByRecursion (λ b. b < 256) xs
 
 -- numbers
 pub pair_again : (n : ℕ) → pair (pair_of n) ≡ Some n

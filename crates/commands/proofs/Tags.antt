@@ -1,14 +1,14 @@
 -- Cases on a number by a list of numbers, and options.
 use Rattle.std.proofs.Common.{◌≡◌, ℕ, Bool, true, false, cond, eqb, List, [], ◌∷◌, is_some, Some, None, Ok, Err, Option, sym, refl, subst, ⊎_elim, arith}
 use Rattle.std.specs.Option.{option_map, ok_or}
-use Rattle.std.specs.List.{AllByRecursion as All}
+use Rattle.std.specs.List.{AllByRecursion}
 use Rattle.std.proofs.lemmas.Bool.{eqb-true, cases_Bool}
 use Rattle.command_words.specs.Format.{kind_of}
 use Rattle.command_words.specs.Format.Kind.{unknown}
 use Rattle.commands.specs.Steps.{then, worth}
 
 -- a number is one of the list, or none of it
-pub by_tags : (P : ℕ → Type 0) (t : ℕ) (ks : List ℕ) → All P ks → (All (λ k. eqb t k ≡ false) ks → P t) → P t
+pub by_tags : (P : ℕ → Type 0) (t : ℕ) (ks : List ℕ) → AllByRecursion P ks → (AllByRecursion (λ k. eqb t k ≡ false) ks → P t) → P t
 by_tags P t [] a other = other tt
 by_tags P t (k ∷ ks) a other =
     ⊎_elim (λ e. subst P (sym (eqb-true t k e)) a.0) (λ e. by_tags P t ks a.1 (λ r. other (e, r))) (cases_Bool (eqb t k))
@@ -17,7 +17,7 @@ abbrev pub tags : List ℕ
 tags = 1 ∷ 2 ∷ 3 ∷ 4 ∷ 5 ∷ 6 ∷ 7 ∷ 8 ∷ 9 ∷ 10 ∷ []
 
 -- what holds of each tag there is
-pub ten : (P : ℕ → Type 0) → P 1 → P 2 → P 3 → P 4 → P 5 → P 6 → P 7 → P 8 → P 9 → P 10 → All P tags
+pub ten : (P : ℕ → Type 0) → P 1 → P 2 → P 3 → P 4 → P 5 → P 6 → P 7 → P 8 → P 9 → P 10 → AllByRecursion P tags
 ten P a b c d e f g h i j = (a, (b, (c, (d, (e, (f, (g, (h, (i, (j, tt))))))))))
 
 pub none_some : {X : Type 0} {x : X} → None ≡ Some x → ⊥
@@ -52,7 +52,7 @@ err_none None e f h = (refl, cc)
 err_none (Some y) e f h = let z : ◌≡◌ {A = ℕ} 0 1 = cc in absurd (omega arith)
 
 -- there is no other tag
-module _ (t : ℕ) (o : All (λ k. eqb t k ≡ false) tags) where
+module _ (t : ℕ) (o : AllByRecursion (λ k. eqb t k ≡ false) tags) where
   pub worth_none : (v : List ℕ) → worth t v ≡ None
   worth_none v = rw (o.0, o.1.0, o.1.1.0, o.1.1.1.0, o.1.1.1.1.0, o.1.1.1.1.1.0, o.1.1.1.1.1.1.0, o.1.1.1.1.1.1.1.0, o.1.1.1.1.1.1.1.1.0, o.1.1.1.1.1.1.1.1.1.0)
 

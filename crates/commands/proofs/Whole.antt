@@ -1,7 +1,7 @@
 -- A record that has every field of its command is what is written of it.
 use Rattle.std.proofs.Common.{◌≡◌, ℕ, ◌<◌, ◌≤◌, true, false, eqb, List, [], ◌∷◌, Some, None, Option, sym, refl, ap, ◌∙◌, subst, ⊎_elim, append-nil, arith, lit<}
 use Rattle.std.specs.Option.{option_or}
-use Rattle.std.specs.List.{ContainsAt as Has, AllByRecursion as All}
+use Rattle.std.specs.List.{ContainsAt as Has, AllByRecursion}
 use Rattle.std.proofs.ByRecursion.{all-has, all_has_itself, All-weaker}
 use Rattle.std.proofs.lemmas.Bool.{cases_Bool, cond-true, cond-false, eqb-true, eq-eqb, ne_eqb, cases_eq}
 use Rattle.command_words.specs.declared.Verb.{Verb}
@@ -121,7 +121,7 @@ falls_of (commands.Return c h) = (((tt, lit< tt), lit< tt), lit< tt)
 some_none : {X : Type 0} {x : X} → Some x ≡ None → ⊥
 some_none e = none_some (sym e)
 
-tags_in : (c : Command) → All (λ t. look t (fields_of c) ≡ None → ⊥) (tags_of (verb_of c))
+tags_in : (c : Command) → AllByRecursion (λ t. look t (fields_of c) ≡ None → ⊥) (tags_of (verb_of c))
 tags_in (commands.Issue c h g x y m r) = (some_none, (some_none, (some_none, (some_none, (some_none, (some_none, (some_none, (some_none, tt))))))))
 tags_in (commands.Amend c x y m r n) = (some_none, (some_none, (some_none, (some_none, (some_none, (some_none, (some_none, tt)))))))
 tags_in (commands.Withdraw c n) = (some_none, (some_none, (some_none, tt)))
@@ -133,12 +133,12 @@ present : (o d : Option (List ℕ)) (v : List ℕ) → option_or o d ≡ Some v 
 present None d v e n = absurd (n refl)
 present (Some u) d v e n = e
 
-all_present : (fs gs : List Field) → All (λ (f : Field). says fs f.0 ≡ Some f.1) gs → All (λ (f : Field). look f.0 fs ≡ None → ⊥) gs
-    → All (λ (f : Field). look f.0 fs ≡ Some f.1) gs
+all_present : (fs gs : List Field) → AllByRecursion (λ (f : Field). says fs f.0 ≡ Some f.1) gs → AllByRecursion (λ (f : Field). look f.0 fs ≡ None → ⊥) gs
+    → AllByRecursion (λ (f : Field). look f.0 fs ≡ Some f.1) gs
 all_present fs [] m p = tt
 all_present fs (g ∷ gs) m p = (present (look g.0 fs) (default_of g.0) g.1 m.0 p.0, all_present fs gs m.1 p.1)
 
-found_there : (fs gs : List Field) → All (λ (f : Field). look f.0 fs ≡ Some f.1) gs → (t : ℕ) (v : List ℕ) → look t gs ≡ Some v → look t fs ≡ Some v
+found_there : (fs gs : List Field) → AllByRecursion (λ (f : Field). look f.0 fs ≡ Some f.1) gs → (t : ℕ) (v : List ℕ) → look t gs ≡ Some v → look t fs ≡ Some v
 found_there fs [] a t v e = absurd (none_some e)
 found_there fs (g ∷ gs) a t v e =
     ⊎_elim
@@ -146,7 +146,7 @@ found_there fs (g ∷ gs) a t v e =
     (λ (s : eqb g.0 t ≡ false). found_there fs gs a.1 t v (sym (cond-false (eqb g.0 t) (Some g.1) (look t gs) s) ∙ e))
     (cases_Bool (eqb g.0 t))
 
-module _ (fs : List Field) (l : Lawful fs) (c : Command) (made : Makes fs c) (a : All (λ (f : Field). look f.0 fs ≡ Some f.1) (fields_of c)) where
+module _ (fs : List Field) (l : Lawful fs) (c : Command) (made : Makes fs c) (a : AllByRecursion (λ (f : Field). look f.0 fs ≡ Some f.1) (fields_of c)) where
   verb_there : look 1 fs ≡ Some (verb_letter (verb_of c) ∷ [])
   verb_there = said_look (look 1 fs) (verb_letter (verb_of c) ∷ []) (made_tags fs c made).0
 

@@ -3,7 +3,7 @@
 -- The answer says which, and a refusal names the offset at which those fields end.
 use Rattle.std.specs.Prelude.{◌≡◌, ℕ, ◌<◌, ◌⊎◌, List, [], ◌∷◌, ◌++◌, length, Some, None, Ok, Err, Option, Result, ◌≢◌}
 use Rattle.std.specs.Option.{option_or}
-use Rattle.std.specs.List.{ContainsAt as Has, AllByRecursion as All}
+use Rattle.std.specs.List.{ContainsAt as Has, AllByRecursion}
 use Rattle.faults.specs.declared.Fault.{Fault}
 use Rattle.faults.specs.declared.Refusal.TheVariants.{CommandIllFormed}
 use Rattle.faults.specs.Faults.{fault}
@@ -70,7 +70,7 @@ says fs t = option_or (look t fs) (default_of t)
 
 -- the fields make the command: under each tag of the command they say what the command has there
 abbrev pub Makes : List Field → Command → Type 0
-Makes fs c = All (λ (f : Field). says fs f.0 ≡ Some f.1) (fields_of c)
+Makes fs c = AllByRecursion (λ (f : Field). says fs f.0 ≡ Some f.1) (fields_of c)
 
 -- a field is missing whose absence means nothing
 abbrev pub Lacks : List Field → Type 0

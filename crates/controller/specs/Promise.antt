@@ -1,7 +1,7 @@
 -- The promise over whole runs: of any list of the eight calls on one cabinet from new, refused ones included, under every
 -- lawful condition language.
 use Rattle.std.specs.Prelude.{◌≡◌, ℕ, List, ◌++◌, map, length, drop, is_some, None, ◌≢◌}
-use Rattle.std.specs.List.{AllByRecursion as All}
+use Rattle.std.specs.List.{AllByRecursion}
 use Rattle.faults.specs.declared.Refusal.TheVariants.{NoChain}
 use Rattle.faults.specs.Faults.{fault}
 use Rattle.states.specs.declared.state.State.{State}
@@ -77,8 +77,8 @@ module _ (size : ℕ) (says : ℕ → State → Truth) where
         → replies past (Draw caller h told) ≡ Slip hook person numbers
         → SlipTells says (judged_by past) (after past) caller h told hook person numbers
     -- nobody breaks a chain that has no grant of his: after any further calls by p it justifies its draw, and 11 does not refuse it
-    pub nobody_else : (past more : List Call) (p : ℕ) → All (By p) more → (q h : ℕ) (told : Report) (c : List Grant)
-        → Opens past q h told c → All (λ (g : Grant). g.grantor ≢ p) c
+    pub nobody_else : (past more : List Call) (p : ℕ) → AllByRecursion (By p) more → (q h : ℕ) (told : Report) (c : List Grant)
+        → Opens past q h told c → AllByRecursion (λ (g : Grant). g.grantor ≢ p) c
         → Opens (past ++ more) q h told c × ((place : ℕ) → replies (past ++ more) (Draw q h told) ≢ Refused (fault NoChain place))
     -- a chain that is valid by the kept states is valid by the whole states that its grants were made under
     pub whole_too : (past : List Call) (q h : ℕ) (c : List Grant) → Chain (after past).grants h (owner (after past) h) c q

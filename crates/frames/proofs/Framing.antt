@@ -3,7 +3,7 @@ use Rattle.std.proofs.Common.{◌≡◌, ℕ, zero, suc, ◌+◌, ◌*◌, ◌/�
 use native.Mathlib.Nat.{min-eq_left, min-eq_right}
 use lib.Seq.{take-length}
 use Rattle.std.specs.Option.{ok_or}
-use Rattle.std.specs.List.{AllByRecursion as All}
+use Rattle.std.specs.List.{AllByRecursion}
 use Rattle.std.proofs.lemmas.Bool.{leb-false, eq-eqb, eqb-true, eqb-false, cond-true, cond-false, true≢false}
 use Rattle.faults.specs.declared.Fault.{Fault}
 use Rattle.command_words.specs.Fields.{Field, spell, spells}

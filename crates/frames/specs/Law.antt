@@ -1,6 +1,6 @@
 -- The law of the frame: where the parts of a file stand, and where a part should stand that is missing.
 use Rattle.std.specs.Prelude.{◌≡◌, ℕ, ◌⊎◌, List, [], ◌∷◌, ◌++◌, length, Ok, Err, Result, ◌≢◌}
-use Rattle.std.specs.List.{AllByRecursion as All}
+use Rattle.std.specs.List.{AllByRecursion}
 use Rattle.faults.specs.declared.Fault.{Fault}
 use Rattle.command_words.specs.Fields.{Field, spell, spells}
 use Rattle.commands.specs.Law.{CutShort, ill}
@@ -8,7 +8,7 @@ use Rattle.frames.specs.Frames.{Parts}
 
 -- fields that are all tagged C1
 abbrev pub Conditions : List Field → Type 0
-Conditions fs = All (λ (f : Field). f.0 ≡ 0xC1) fs
+Conditions fs = AllByRecursion (λ (f : Field). f.0 ≡ 0xC1) fs
 
 -- a book, and what stands behind it: whole C1 fields, behind which no C1 stands; or whole C1 fields and one more that is cut by
 -- the end of the file

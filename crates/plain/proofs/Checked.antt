@@ -1,7 +1,7 @@
 -- What passing and failing checks mean.
 use Rattle.std.proofs.Common.{◌≡◌, ℕ, zero, suc, Bool, true, false, cond, ltb, List, [], ◌∷◌, ◌++◌, IsErrAnd, Some, None, Ok, Err, Decides, Option, Result, sym, refl, ap, ◌∙◌, subst, ⊎_elim, arith}
 use Rattle.std.proofs.lemmas.Result.{err_from_is_err_and}
-use Rattle.std.specs.List.{AllByRecursion as All}
+use Rattle.std.specs.List.{AllByRecursion}
 use Rattle.std.proofs.lemmas.Bool.{cases_Bool, true≢false}
 use Rattle.chains.specs.Words.{Same}
 use Rattle.faults.specs.declared.Fault.{Fault}
@@ -18,7 +18,7 @@ use Rattle.loans.specs.Events.{judged}
 use Rattle.plain.specs.Record.{World, Answer, Refused, Number, Orphaned, Slip, Done, check, chainless, found, first_fault, judged_by, passed}
 
 abbrev pub Passed : List (Option Fault) → Type 0
-Passed cs = All (λ (o : Option Fault). o ≡ None) cs
+Passed cs = AllByRecursion (λ (o : Option Fault). o ≡ None) cs
 
 pub none_some : {A : Type 0} {x : A} → Some x ≡ None → ⊥
 none_some e = let z : ◌≡◌ {A = ℕ} 0 1 = cc e in omega (arith, z)
@@ -68,7 +68,7 @@ code_draw h (Promised p) q e = omega arith
 code_draw h Out q e = omega arith
 
 -- a call is refused for want of a chain only where a check says so
-pub not_refused : (place : ℕ) (w : World) (cs : List (Option Fault)) (d : World × Answer) → All (λ (o : Option Fault). code o ≡ 11 → ⊥) cs
+pub not_refused : (place : ℕ) (w : World) (cs : List (Option Fault)) (d : World × Answer) → AllByRecursion (λ (o : Option Fault). code o ≡ 11 → ⊥) cs
     → (d.1 ≡ Refused (fault NoChain place) → ⊥) → (judged_by w (first_fault cs) d).1 ≡ Refused (fault NoChain place) → ⊥
 not_refused place w [] d a f e = f e
 not_refused place w (None ∷ cs) d a f e = not_refused place w cs d a.1 f e
@@ -82,7 +82,7 @@ skipped (Some x ∷ before) after e = absurd (none_some e)
 
 -- where the earlier checks find nothing, a call is refused for want of a chain exactly when it has none
 pub for_want : (w : World) (before after : List (Option Fault)) (j : Bool) (d : World × Answer) {P : Type 0} → Decides j P
-    → first_fault before ≡ None → All (λ (o : Option Fault). code o ≡ 11 → ⊥) after → (d.1 ≡ Refused (fault NoChain 0) → ⊥)
+    → first_fault before ≡ None → AllByRecursion (λ (o : Option Fault). code o ≡ 11 → ⊥) after → (d.1 ≡ Refused (fault NoChain 0) → ⊥)
     → Same ((judged_by w (first_fault (before ++ (chainless j ∷ after))) d).1 ≡ Refused (fault NoChain 0)) (P → ⊥)
 for_want w before after j d dec pass rest other =
     let e = skipped before (chainless j ∷ after) pass in (

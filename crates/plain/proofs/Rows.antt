@@ -1,12 +1,12 @@
 -- Rows without the first of a number, and lists of which some are kept.
 use Rattle.std.proofs.Common.{◌≡◌, ℕ, suc, ◌<◌, ◌≤◌, Bool, true, false, cond, eqb, List, [], ◌∷◌, length, Some, sym, refl, ap, ◌∙◌, inl, inr, arith}
-use Rattle.std.specs.List.{AllByRecursion as All}
+use Rattle.std.specs.List.{AllByRecursion}
 use Rattle.std.proofs.lemmas.Bool.{eqb-true}
 use Rattle.numbered.specs.Rows.{row_of, without}
 use Rattle.chains.specs.Lists.{In, Sorted, keep_if}
 use Rattle.chains.proofs.Lists.{all_in, in_all, keep_in}
 
-pub all_keep : {X : Type 0} (P : X → Type 0) (t : X → Bool) (xs : List X) → All P xs → All P (keep_if t xs)
+pub all_keep : {X : Type 0} (P : X → Type 0) (t : X → Bool) (xs : List X) → AllByRecursion P xs → AllByRecursion P (keep_if t xs)
 all_keep P t xs a = in_all P (keep_if t xs) (λ x i. all_in P xs a x (keep_in t xs x i).0)
 
 pub keep_short : {X : Type 0} (t : X → Bool) (xs : List X) → length (keep_if t xs) ≤ length xs
@@ -37,7 +37,7 @@ module _ {X : Type 0} (f : X → ℕ) (n : ℕ) where
       go ih false e (inl i) = inl i
       go ih false e (inr i) = inr (ih i)
 
-  pub all_without : (P : X → Type 0) (xs : List X) → All P xs → All P (without f n xs)
+  pub all_without : (P : X → Type 0) (xs : List X) → AllByRecursion P xs → AllByRecursion P (without f n xs)
   all_without P xs a = in_all P (without f n xs) (λ x i. all_in P xs a x (without_in xs x i))
 
   pub sorted_without : (R : X → X → Type 0) (xs : List X) → Sorted R xs → Sorted R (without f n xs)

@@ -1,6 +1,6 @@
 -- What every cabinet keeps that calls can make of a new one.
 use Rattle.std.proofs.Common.{◌≡◌, ℕ, zero, suc, ◌+◌, ◌<◌, ◌≤◌, Bool, false, not, ◌||◌, eqb, ltb, List, [], ◌∷◌, ◌++◌, length, get_or, replicate, is_some, Some, None, Option, unwrap_or, sym, refl, ap, ◌∙◌, subst, inl, inr, ⊎_elim, arith, length-append}
-use Rattle.std.specs.List.{AllByRecursion as All}
+use Rattle.std.specs.List.{AllByRecursion}
 use Rattle.std.proofs.lemmas.Bool.{true≢false, or_parts, not-false, eqb-true, eqb-false, leb-false}
 use Rattle.states.specs.declared.state.State.{State}
 use Rattle.grants.specs.declared.Grant.{Grant}
@@ -36,10 +36,10 @@ zeros (suc n) (suc h) = zeros n h
 pub fine_new : Fine new
 fine_new = record { rising = tt; low = tt; few = omega arith; spent = omega arith; unowned = λ e h. zeros 32 h; bare = λ e. refl }
 
-rising_add : (r : List Grant) (g : Grant) (n : ℕ) → Rising r → All (λ (b : Grant). b.number ≤ n) r → g.number ≡ n + 1 → Rising (r ++ (g ∷ []))
+rising_add : (r : List Grant) (g : Grant) (n : ℕ) → Rising r → AllByRecursion (λ (b : Grant). b.number ≤ n) r → g.number ≡ n + 1 → Rising (r ++ (g ∷ []))
 rising_add r g n up low e = sorted_append lower r (g ∷ []) up (tt, tt) (λ x y i j. ⊎_elim (λ k. let l = all_in (λ (b : Grant). b.number ≤ n) r low x i in let m = ap number_of k in omega (arith, l, m)) (λ k. absurd k) j)
 
-low_add : (r : List Grant) (g : Grant) (n : ℕ) → All (λ (b : Grant). b.number ≤ n) r → g.number ≡ n + 1 → All (λ (b : Grant). b.number ≤ n + 1) (r ++ (g ∷ []))
+low_add : (r : List Grant) (g : Grant) (n : ℕ) → AllByRecursion (λ (b : Grant). b.number ≤ n) r → g.number ≡ n + 1 → AllByRecursion (λ (b : Grant). b.number ≤ n + 1) (r ++ (g ∷ []))
 low_add [] g n low e = (omega arith, tt)
 low_add (b ∷ r) g n low e = let l = low.0 in (omega arith, low_add r g n low.1 e)
 

@@ -1,6 +1,6 @@
 -- Nobody else breaks a chain.
 use Rattle.std.proofs.Common.{◌≡◌, ℕ, false, not, ◌||◌, eqb, ltb, List, [], ◌∷◌, ◌++◌, is_some, Some, None, Option, refl, subst, arith}
-use Rattle.std.specs.List.{AllByRecursion as All}
+use Rattle.std.specs.List.{AllByRecursion}
 use Rattle.faults.specs.declared.Refusal.TheVariants.{NotAPerson, NoSuchHook, NoChain}
 use Rattle.faults.specs.Faults.{fault}
 use Rattle.states.specs.declared.state.State.{State}
@@ -23,7 +23,7 @@ use Rattle.plain.proofs.Swept.{swept_rid}
 
 module _ (size : ℕ) (means : ℕ → State → Truth) (put see : ℕ → State → State) where
   -- a chain with no grant by p, over calls by p
-  module _ (p h q : ℕ) (s : State) (c : List Grant) (other : All (λ (g : Grant). g.grantor ≡ p → ⊥) c) where
+  module _ (p h q : ℕ) (s : State) (c : List Grant) (other : AllByRecursion (λ (g : Grant). g.grantor ≡ p → ⊥) c) where
     abbrev Held : World → Type 0
     Held w = Serves means (seen size means put see w) w.grants h (owner w h) q s c
 
@@ -66,7 +66,7 @@ module _ (size : ℕ) (means : ℕ → State → Truth) (put see : ℕ → State
     held_done w (Leave h' p') b f x a = x
     held_done w (Return caller h') b f x a = x
 
-    held_run : (ks : List Call) → All (By p) ks → (w : World) → Fine w → Held w → Held (run size means put see w ks)
+    held_run : (ks : List Call) → AllByRecursion (By p) ks → (w : World) → Fine w → Held w → Held (run size means put see w ks)
     held_run [] b w f x = x
     held_run (k ∷ ks) b w f x =
         held_run ks b.1 (step size means put see w k).0 (fine_step size means put see w k f)

@@ -1,6 +1,6 @@
 -- Every state on the plain record is in range, so that a lawful language's laws hold of it.
 use Rattle.std.proofs.Common.{◌≡◌, ℕ, zero, suc, ◌+◌, ◌<◌, ◌≤◌, Bool, true, false, cond, not, List, [], ◌∷◌, ◌++◌, map, reverse, is_some, Some, None, Err, Option, unwrap_or, sym, refl, ap, ◌∙◌, subst, ⊎_elim, arith}
-use Rattle.std.specs.List.{AllByRecursion as All}
+use Rattle.std.specs.List.{AllByRecursion}
 use Rattle.std.proofs.lemmas.Bool.{true≢false, not-false, cases_lt}
 use Rattle.faults.specs.declared.Refusal.TheVariants.{ValueOutOfRange}
 use Rattle.faults.specs.Faults.{fault}
@@ -51,9 +51,9 @@ abbrev Good : Grant → Type 0
 Good g = InRange g.state × Person g.grantee
 
 abbrev Ranged : World → Type 0
-Ranged w = All Good w.grants
+Ranged w = AllByRecursion Good w.grants
 
-all_more : (r : List Grant) (g : Grant) → All Good r → Good g → All Good (r ++ (g ∷ []))
+all_more : (r : List Grant) (g : Grant) → AllByRecursion Good r → Good g → AllByRecursion Good (r ++ (g ∷ []))
 all_more r g a b = in_all Good (r ++ (g ∷ [])) (λ x i. ⊎_elim (all_in Good r a x) (⊎_elim (λ e. subst Good e b) (λ k. absurd k)) (in_append x r (g ∷ []) i))
 
 module _ (size : ℕ) (means : ℕ → State → Truth) where
@@ -81,7 +81,7 @@ module _ (size : ℕ) (means : ℕ → State → Truth) where
   ranged_run [] w g = g
   ranged_run (k ∷ ks) w g = ranged_run ks (step size means whole kept w k).0 (keeps_judged Ranged w (checks size means whole kept w k) (done size means whole kept w k) g (ranged_done w k g))
 
-  in_range : (past : List Call) → All (λ (g : Grant). InRange g.state) (run size means whole kept new past).grants
+  in_range : (past : List Call) → AllByRecursion (λ (g : Grant). InRange g.state) (run size means whole kept new past).grants
   in_range past =
       let r = (run size means whole kept new past).grants in
       in_all (λ (g : Grant). InRange g.state) r (λ g i. (all_in Good r (ranged_run past new tt) g i).0)

@@ -1,7 +1,7 @@
 -- The laws of the plain record, over every count and meaning of a language, and whatever part of a state is written down and
 -- judged.
 use Rattle.std.specs.Prelude.{◌≡◌, ℕ, ◌+◌, ◌≤◌, false, not, ◌&&◌, List, [], ◌∷◌, map, reverse, length, is_some, None, ◌≢◌}
-use Rattle.std.specs.List.{range_with_len, AllByRecursion as All}
+use Rattle.std.specs.List.{range_with_len, AllByRecursion}
 use Rattle.faults.specs.declared.Refusal.TheVariants.{NoChain}
 use Rattle.faults.specs.Faults.{fault}
 use Rattle.states.specs.declared.state.State.{State}
@@ -26,7 +26,7 @@ use Rattle.plain.specs.Record.{World, Call, Issue, Amend, Draw, Answer, Refused,
 pub record Fine (w : World) : Type 0 where
   -- the numbers of the grants rise, and none is above the last number given
   pub rising : Rising w.grants
-  pub low : All (λ (g : Grant). g.number ≤ w.last) w.grants
+  pub low : AllByRecursion (λ (g : Grant). g.number ≤ w.last) w.grants
   -- at most 96 grants are on record, and at most 1,000,000 numbers given
   pub few : length w.grants ≤ 96
   pub spent : w.last ≤ 1000000
@@ -63,10 +63,10 @@ module _ (size : ℕ) (means : ℕ → State → Truth) (put see : ℕ → State
   -- not refused for want of a chain
   abbrev pub Unbroken : Type 0
   Unbroken =
-      (past calls : List Call) (p : ℕ) → All (By p) calls → (h q : ℕ) (told : Report) (c : List Grant)
+      (past calls : List Call) (p : ℕ) → AllByRecursion (By p) calls → (h q : ℕ) (told : Report) (c : List Grant)
       → let w = run size means put see new past in
       let v = run size means put see w calls in
-      ServesDraw w h q told c → All (λ (g : Grant). g.grantor ≢ p) c
+      ServesDraw w h q told c → AllByRecursion (λ (g : Grant). g.grantor ≢ p) c
       → ServesDraw v h q told c × ((place : ℕ) → (step size means put see v (Draw q h told)).1 ≢ Refused (fault NoChain place))
 
   -- a draw, an issue and an amendment whose earlier checks find nothing are refused for want of a chain exactly when there is
@@ -141,7 +141,7 @@ pub record SlipTells (means : ℕ → State → Truth) (st : Grant → State) (w
 -- what the plain record keeps in a lawful language: the whole states written down, their kept parts judged
 pub record WholeLaws (size : ℕ) (means : ℕ → State → Truth) : Type 0 where
   -- every state on record is in range
-  pub ranged : (past : List Call) → All (λ (g : Grant). InRange g.state) (run size means whole kept new past).grants
+  pub ranged : (past : List Call) → AllByRecursion (λ (g : Grant). InRange g.state) (run size means whole kept new past).grants
   -- a chain that is valid by the kept states is valid by the whole states
   pub valid_whole : (past : List Call) (h o p : ℕ) (c : List Grant)
       → let w = run size means whole kept new past in

@@ -1,6 +1,6 @@
 -- The chains over links are the chains over the record.
 use Rattle.std.proofs.Common.{◌≡◌, ℕ, ◌<◌, Bool, true, ◌&&◌, eqb, List, [], ◌∷◌, ◌++◌, length, get_or, sym, refl, ap, ◌∙◌, subst}
-use Rattle.std.specs.List.{AllByRecursion as All}
+use Rattle.std.specs.List.{AllByRecursion}
 use Rattle.std.proofs.lemmas.Bool.{and_parts, and_from, eqb-true, eq-eqb}
 use Rattle.states.specs.declared.state.State.{State}
 use Rattle.grants.specs.declared.Grant.{Grant}
@@ -30,10 +30,10 @@ module _ (means : ℕ → State → Truth) (r : List Grant) (l : Links) (a h o :
   module _ (fits : Fits) where
     -- each state of these places makes the grant condition of b true
     abbrev Admits : Grant → List ℕ → Type 0
-    Admits b w = All (λ j. means b.onward (at r j).state ≡ True) w
+    Admits b w = AllByRecursion (λ j. means b.onward (at r j).state ≡ True) w
 
     -- the places of a row that are allowed
-    row_admits : (i : ℕ) (w : List ℕ) → i < length r → member a i ≡ true → All (λ j. j < length r) w → AllIn a w → AllIn (get_or l.row i 0) w → Admits (at r i) w
+    row_admits : (i : ℕ) (w : List ℕ) → i < length r → member a i ≡ true → AllByRecursion (λ j. j < length r) w → AllIn a w → AllIn (get_or l.row i 0) w → Admits (at r i) w
     row_admits i [] lt m low al ro = tt
     row_admits i (j ∷ w) lt m low al ro = (
       (decides_is_true (means (at r i).onward (at r j).state)).0 (sym (fits.rows i j lt low.0 m al.0) ∙ ro.0),
@@ -44,21 +44,21 @@ module _ (means : ℕ → State → Truth) (r : List Grant) (l : Links) (a h o :
     pub record Goes_on (c : List Grant) (p t : ℕ) (w : List ℕ) : Type 0 where
       pub chain : Chain r h o c p
       pub valid : Valid means recorded c
-      pub passes : All (λ (g : Grant). test g ≡ true) c
+      pub passes : AllByRecursion (λ (g : Grant). test g ≡ true) c
       pub joins : Joins l p w t
-      pub low : All (λ i. i < length r) w
+      pub low : AllByRecursion (λ i. i < length r) w
       pub allows : AllIn a w
       pub admitted : Admitted l w
       pub apart : Apart (reached l w)
       pub owner : NoneOf o (reached l w)
-      pub others : All (λ (b : Grant). NoneOf b.grantee (reached l w)) c
-      pub admits : All (λ (b : Grant). Admits b w) c
+      pub others : AllByRecursion (λ (b : Grant). NoneOf b.grantee (reached l w)) c
+      pub admits : AllByRecursion (λ (b : Grant). Admits b w) c
 
-    heads : (c : List Grant) (i : ℕ) (w : List ℕ) → All (λ (b : Grant). Admits b (i ∷ w)) c → AllOnward means c (at r i).state × All (λ (b : Grant). Admits b w) c
+    heads : (c : List Grant) (i : ℕ) (w : List ℕ) → AllByRecursion (λ (b : Grant). Admits b (i ∷ w)) c → AllOnward means c (at r i).state × AllByRecursion (λ (b : Grant). Admits b w) c
     heads [] i w x = (tt, tt)
     heads (b ∷ c) i w x = let y = heads c i w x.1 in ((x.0.0, y.0), (x.0.1, y.1))
 
-    news : (c : List Grant) (x : ℕ) (xs : List ℕ) → All (λ (b : Grant). NoneOf b.grantee (x ∷ xs)) c → All (λ (b : Grant). b.grantee ≡ x → ⊥) c × All (λ (b : Grant). NoneOf b.grantee xs) c
+    news : (c : List Grant) (x : ℕ) (xs : List ℕ) → AllByRecursion (λ (b : Grant). NoneOf b.grantee (x ∷ xs)) c → AllByRecursion (λ (b : Grant). b.grantee ≡ x → ⊥) c × AllByRecursion (λ (b : Grant). NoneOf b.grantee xs) c
     news [] x xs n = (tt, tt)
     news (b ∷ c) x xs n = let y = news c x xs n.1 in ((λ e. n.0.0 (sym e), y.0), (n.0.1, y.1))
 
@@ -75,7 +75,7 @@ module _ (means : ℕ → State → Truth) (r : List Grant) (l : Links) (a h o :
             at_in r i lt,
             eqb-true g.hook h pass.0,
             refl,
-            (λ e. s.owner.0 (to ∙ e), subst (λ x. All (λ (b : Grant). b.grantee ≡ x → ⊥) c) to ns.0),
+            (λ e. s.owner.0 (to ∙ e), subst (λ x. AllByRecursion (λ (b : Grant). b.grantee ≡ x → ⊥) c) to ns.0),
             subst (Chain r h o c) (sym s.joins.1 ∙ fits.giver i lt) s.chain,
           );
           valid = (s.valid, hs.0);
@@ -92,7 +92,7 @@ module _ (means : ℕ → State → Truth) (r : List Grant) (l : Links) (a h o :
 
     -- a valid chain whose grants all pass
     abbrev pub Passes : List Grant → ℕ → Type 0
-    Passes c t = Chain r h o c t × Valid means recorded c × All (λ (g : Grant). test g ≡ true) c
+    Passes c t = Chain r h o c t × Valid means recorded c × AllByRecursion (λ (g : Grant). test g ≡ true) c
 
     goes : (c : List Grant) (p t : ℕ) (w : List ℕ) → Goes_on c p t w → Passes (onto r w c) t
     goes c p t [] s = (subst (Chain r h o c) s.joins s.chain, s.valid, s.passes)
@@ -105,7 +105,7 @@ module _ (means : ℕ → State → Truth) (r : List Grant) (l : Links) (a h o :
           valid = tt;
           passes = tt;
           joins = way.joins;
-          low = subst (λ n. All (λ i. i < n) w) fits.count (joins_low l o t w way.joins);
+          low = subst (λ n. AllByRecursion (λ i. i < n) w) fits.count (joins_low l o t w way.joins);
           allows = way.allows;
           admitted = way.admitted;
           apart = way.apart.1;
@@ -115,14 +115,14 @@ module _ (means : ℕ → State → Truth) (r : List Grant) (l : Links) (a h o :
         })
 
     -- the rows of the places w have place i
-    rows_have : (i : ℕ) (w : List ℕ) → i < length r → member a i ≡ true → All (λ k. k < length r) w → AllIn a w → All (λ k. means (at r k).onward (at r i).state ≡ True) w → All (λ k. member (get_or l.row k 0) i ≡ true) w
+    rows_have : (i : ℕ) (w : List ℕ) → i < length r → member a i ≡ true → AllByRecursion (λ k. k < length r) w → AllIn a w → AllByRecursion (λ k. means (at r k).onward (at r i).state ≡ True) w → AllByRecursion (λ k. member (get_or l.row k 0) i ≡ true) w
     rows_have i [] lt m low al tr = tt
     rows_have i (k ∷ w) lt m low al tr = (
       fits.rows k i low.0 lt al.0 m ∙ (decides_is_true (means (at r k).onward (at r i).state)).1 tr.0,
       rows_have i w lt m low.1 al.1 tr.1,
     )
 
-    takers_differ : (t : ℕ) (w : List ℕ) → All (λ k. k < length r) w → All (λ k. (at r k).grantee ≡ t → ⊥) w → All (λ x. t ≡ x → ⊥) (reached l w)
+    takers_differ : (t : ℕ) (w : List ℕ) → AllByRecursion (λ k. k < length r) w → AllByRecursion (λ k. (at r k).grantee ≡ t → ⊥) w → AllByRecursion (λ x. t ≡ x → ⊥) (reached l w)
     takers_differ t [] low n = tt
     takers_differ t (k ∷ w) low n = (λ e. n.0 (sym (e ∙ fits.taker k low.0)), takers_differ t w low.1 n.1)
 
@@ -136,20 +136,20 @@ module _ (means : ℕ → State → Truth) (r : List Grant) (l : Links) (a h o :
         let i = place.0 in
         let lt = place.1 in
         let same = place.2 in
-        let low = subst (λ n. All (λ i. i < n) w) fits.count (joins_low l o g.grantor w way.joins) in
+        let low = subst (λ n. AllByRecursion (λ i. i < n) w) fits.count (joins_low l o g.grantor w way.joins) in
         let m : member a i ≡ true =
         fits.allowed i lt ∙ ap (λ (k : Grant). eqb k.hook h && test k) same ∙ and_from (eqb g.hook h) (test g) (eq-eqb g.hook h x.0.1) x.2.0 in
         let to : get_or l.taker i 0 ≡ t = fits.taker i lt ∙ ap (λ (k : Grant). k.grantee) same ∙ x.0.2 in
-        let older = λ (P : Grant → Type 0) (all : All P c). (onto_all r P w [] (subst (All P) (sym below.1) all)).0 in
-        let true_of : All (λ k. means (at r k).onward (at r i).state ≡ True) w =
+        let older = λ (P : Grant → Type 0) (all : AllByRecursion P c). (onto_all r P w [] (subst (AllByRecursion P) (sym below.1) all)).0 in
+        let true_of : AllByRecursion (λ k. means (at r k).onward (at r i).state ≡ True) w =
         older (λ (k : Grant). means k.onward (at r i).state ≡ True) (subst (λ (k : Grant). AllOnward means c k.state) (sym same) x.1.1) in
-        let fresh : All (λ y. t ≡ y → ⊥) (o ∷ reached l w) = (x.0.3.0, takers_differ t w low (older (λ (k : Grant). k.grantee ≡ t → ⊥) x.0.3.1)) in (
+        let fresh : AllByRecursion (λ y. t ≡ y → ⊥) (o ∷ reached l w) = (x.0.3.0, takers_differ t w low (older (λ (k : Grant). k.grantee ≡ t → ⊥) x.0.3.1)) in (
           w ++ (i ∷ []),
           onto_push r w i [] ∙ (λ j. same j ∷ below.1 j),
           record {
             joins = subst (Joins l o (w ++ (i ∷ []))) to (joins_push l o g.grantor i w way.joins (subst (λ n. i < n) (sym fits.count) lt) (fits.giver i lt ∙ ap (λ (k : Grant). k.grantor) same));
             allows = all_in_push a i w way.allows m;
             admitted = admitted_push l i w way.admitted (rows_have i w lt m low way.allows true_of);
-            apart = subst (λ xs. Apart (o ∷ xs)) (sym (reached_push l i w)) (apart_push (get_or l.taker i 0) (o ∷ reached l w) way.apart (subst (λ y. All (λ z. y ≡ z → ⊥) (o ∷ reached l w)) (sym to) fresh));
+            apart = subst (λ xs. Apart (o ∷ xs)) (sym (reached_push l i w)) (apart_push (get_or l.taker i 0) (o ∷ reached l w) way.apart (subst (λ y. AllByRecursion (λ z. y ≡ z → ⊥) (o ∷ reached l w)) (sym to) fresh));
           },
         )

@@ -1,6 +1,6 @@
 -- What a search finds, in the words of the record.
 use Rattle.std.proofs.Common.{◌≡◌, ℕ, ◌+◌, ◌-◌, ◌<◌, ◌≤◌, Bool, true, cond, ◌&&◌, eqb, ltb, List, [], ◌∷◌, ◌++◌, map, reverse, length, get_or, replicate, Some, None, Decides, Option, sym, refl, ap, ◌∙◌, subst, inl, inr, ⊎_elim, arith}
-use Rattle.std.specs.List.{range_with_len, AllByRecursion as All}
+use Rattle.std.specs.List.{range_with_len, AllByRecursion}
 use Rattle.std.specs.Option.{option_map}
 use Rattle.std.proofs.lemmas.List.FromFn.{get_or-map-range_with_len, length-map-range_with_len}
 use Rattle.std.proofs.lemmas.List.{ext_get_or, length-append, length-map, length-replicate, get_or_append_left, get_or-append_right, get_or-map, get_or-replicate}
@@ -75,11 +75,11 @@ module _ (means : ℕ → State → Truth) (r : List Grant) where
         ∙ ap (λ b. b && is_true (means (at r i).onward (at r j).state)) (eq-eqb (at r i).hook (at r j).hook (of i li mi ∙ sym (of j lj mj)));
   }
 
-  all_true : (f : Grant → ℕ) (s : State) (c : List Grant) → All (λ (g : Grant). is_true (means (f g) s) ≡ true) c → All (λ (g : Grant). means (f g) s ≡ True) c
+  all_true : (f : Grant → ℕ) (s : State) (c : List Grant) → AllByRecursion (λ (g : Grant). is_true (means (f g) s) ≡ true) c → AllByRecursion (λ (g : Grant). means (f g) s ≡ True) c
   all_true f s [] a = tt
   all_true f s (g ∷ c) a = ((decides_is_true (means (f g) s)).0 a.0, all_true f s c a.1)
 
-  true_all : (f : Grant → ℕ) (s : State) (c : List Grant) → All (λ (g : Grant). means (f g) s ≡ True) c → All (λ (g : Grant). is_true (means (f g) s) ≡ true) c
+  true_all : (f : Grant → ℕ) (s : State) (c : List Grant) → AllByRecursion (λ (g : Grant). means (f g) s ≡ True) c → AllByRecursion (λ (g : Grant). is_true (means (f g) s) ≡ true) c
   true_all f s [] a = tt
   true_all f s (g ∷ c) a = ((decides_is_true (means (f g) s)).1 a.0, true_all f s c a.1)
 
@@ -112,7 +112,7 @@ module _ (means : ℕ → State → Truth) (r : List Grant) where
                 ⊎_elim
                 (λ lt. inr (inl (omega (arith, same, mine, lt))))
                 (λ n.
-                let low = subst (λ m. All (λ i. i < m) q) fit.count (joins_low l o p q y.2.joins) in
+                let low = subst (λ m. AllByRecursion (λ i. i < m) q) fit.count (joins_low l o p q y.2.joins) in
                 ⊎_elim (λ e. inl (e ∙ y.1)) (λ lo. inr (inr (sym mine ∙ n.0 ∙ same, subst (Lower c) y.1 lo))) (not_after r up w q [] n.0 low n.1))
                 (best.4 q (subst (λ m. m ≤ 8) (sym same) x.1) y.2),
           ),

@@ -1,7 +1,7 @@
 -- Grants by place, and a list of places as a chain of grants.
 use Rattle.std.proofs.Common.{◌≡◌, ℕ, zero, suc, ◌+◌, ◌<◌, ◌≤◌, true, false, ◌&&◌, leb, ◌⊎◌, List, [], ◌∷◌, ◌++◌, map, reverse, length, get_or, drop, sym, refl, ap, ◌∙◌, subst, inl, inr, add-one, arith}
 use mathlib.Core.List.{reverse-cons}
-use Rattle.std.specs.List.{AllByRecursion as All}
+use Rattle.std.specs.List.{AllByRecursion}
 use Rattle.std.proofs.lemmas.List.{append-nil, append_assoc}
 use Rattle.std.proofs.lemmas.Bool.{and_parts, leb-true, lt-leb, le-leb}
 use Rattle.grants.specs.declared.Grant.{Grant}
@@ -23,11 +23,11 @@ in_at (a ∷ r) g (inl e) = (0, omega arith, e)
 in_at (a ∷ r) g (inr h) = let x = in_at r g h in (suc x.0, omega (arith, x.1), x.2)
 
 -- the numbers rise from place to place
-raise : (m n : ℕ) → m ≤ n → (xs : List Grant) → All (λ (k : Grant). n ≤ k.number) xs → All (λ (k : Grant). m ≤ k.number) xs
+raise : (m n : ℕ) → m ≤ n → (xs : List Grant) → AllByRecursion (λ (k : Grant). n ≤ k.number) xs → AllByRecursion (λ (k : Grant). m ≤ k.number) xs
 raise m n le [] a = tt
 raise m n le (g ∷ xs) a = (omega (arith, a.0), raise m n le xs a.1)
 
-least : (n : ℕ) (r : List Grant) → rises_from number_of n r ≡ true → All (λ (g : Grant). n ≤ g.number) r
+least : (n : ℕ) (r : List Grant) → rises_from number_of n r ≡ true → AllByRecursion (λ (g : Grant). n ≤ g.number) r
 least n [] e = tt
 least n (g ∷ r) e =
     let p = and_parts (leb n g.number) (rises_from number_of (suc g.number) r) e in
@@ -40,7 +40,7 @@ rising n (g ∷ r) e =
     let p = and_parts (leb n g.number) (rises_from number_of (suc g.number) r) e in
     (least (suc g.number) r p.1, rising (suc g.number) r p.1)
 
-all_at : (P : Grant → Type 0) (r : List Grant) (i : ℕ) → All P r → i < length r → P (at r i)
+all_at : (P : Grant → Type 0) (r : List Grant) (i : ℕ) → AllByRecursion P r → i < length r → P (at r i)
 all_at P [] i a lt = absurd (omega arith)
 all_at P (g ∷ r) zero a lt = a.0
 all_at P (g ∷ r) (suc i) a lt = all_at P r i a.1 (omega arith)
@@ -65,7 +65,7 @@ module _ (r : List Grant) where
   onto_length [] c = omega arith
   onto_length (i ∷ w) c = onto_length w (at r i ∷ c) ∙ omega arith
 
-  pub onto_all : (P : Grant → Type 0) (w : List ℕ) (c : List Grant) → All P (onto w c) → All (λ i. P (at r i)) w × All P c
+  pub onto_all : (P : Grant → Type 0) (w : List ℕ) (c : List Grant) → AllByRecursion P (onto w c) → AllByRecursion (λ i. P (at r i)) w × AllByRecursion P c
   onto_all P [] c a = (tt, a)
   onto_all P (i ∷ w) c a = let x = onto_all P w (at r i ∷ c) a in ((x.1.0, x.0), x.1.1)
 
@@ -85,7 +85,7 @@ module _ (r : List Grant) where
   lower_on (i ∷ w) [] c d e l = absurd (omega arith)
   lower_on (i ∷ w) (j ∷ q) c d e l = lower_on w q (at r i ∷ c) (at r j ∷ d) (omega arith) (inl l)
 
-  pub not_after : Rising r → (w q : List ℕ) (c : List Grant) → length w ≡ length q → All (λ i. i < length r) q → NotAfter w q → (onto w c ≡ onto q c) ⊎ Lower (onto w c) (onto q c)
+  pub not_after : Rising r → (w q : List ℕ) (c : List Grant) → length w ≡ length q → AllByRecursion (λ i. i < length r) q → NotAfter w q → (onto w c ≡ onto q c) ⊎ Lower (onto w c) (onto q c)
   not_after up [] [] c e low n = inl refl
   not_after up [] (j ∷ q) c e low n = absurd (omega arith)
   not_after up (i ∷ w) [] c e low n = absurd n

@@ -1,6 +1,6 @@
 -- One place more at the end of a chain over links.
 use Rattle.std.proofs.Common.{◌≡◌, ℕ, ◌<◌, true, List, [], ◌∷◌, ◌++◌, get_or, sym, refl, ap, ◌∙◌}
-use Rattle.std.specs.List.{AllByRecursion as All}
+use Rattle.std.specs.List.{AllByRecursion}
 use Rattle.paths.specs.Sets.{member}
 use Rattle.paths.specs.Chains.{Joins, AllIn, Admitted, NoneOf, Apart, reached}
 use Rattle.paths.specs.declared.links.Links.{Links}
@@ -9,7 +9,7 @@ pub none_of_push : (x y : ℕ) (xs : List ℕ) → NoneOf x xs → (y ≡ x → 
 none_of_push x y [] n ne = (ne, tt)
 none_of_push x y (z ∷ xs) n ne = (n.0, none_of_push x y xs n.1 ne)
 
-pub apart_push : (y : ℕ) (xs : List ℕ) → Apart xs → All (λ x. y ≡ x → ⊥) xs → Apart (xs ++ (y ∷ []))
+pub apart_push : (y : ℕ) (xs : List ℕ) → Apart xs → AllByRecursion (λ x. y ≡ x → ⊥) xs → Apart (xs ++ (y ∷ []))
 apart_push y [] a n = (tt, tt)
 apart_push y (x ∷ xs) a n = (none_of_push x y xs a.0 n.0, apart_push y xs a.1 n.1)
 
@@ -22,7 +22,7 @@ module _ (l : Links) where
   joins_push p q i [] j lt e = (lt, e ∙ sym j, refl)
   joins_push p q i (k ∷ w) j lt e = (j.0, j.1, joins_push (get_or l.taker k 0) q i w j.2 lt e)
 
-  pub admitted_push : (i : ℕ) (w : List ℕ) → Admitted l w → All (λ k. member (get_or l.row k 0) i ≡ true) w → Admitted l (w ++ (i ∷ []))
+  pub admitted_push : (i : ℕ) (w : List ℕ) → Admitted l w → AllByRecursion (λ k. member (get_or l.row k 0) i ≡ true) w → Admitted l (w ++ (i ∷ []))
   admitted_push i [] a m = (tt, tt)
   admitted_push i (k ∷ w) a m = (all_in_push (get_or l.row k 0) i w a.0 m.0, admitted_push i w a.1 m.1)
 
@@ -31,6 +31,6 @@ module _ (l : Links) where
   reached_push i (k ∷ w) = ap (λ xs. get_or l.taker k 0 ∷ xs) (reached_push i w)
 
   -- every place of a way that joins is below the count
-  pub joins_low : (p q : ℕ) (w : List ℕ) → Joins l p w q → All (λ i. i < l.count) w
+  pub joins_low : (p q : ℕ) (w : List ℕ) → Joins l p w q → AllByRecursion (λ i. i < l.count) w
   joins_low p q [] j = tt
   joins_low p q (i ∷ w) j = (j.0, joins_low (get_or l.taker i 0) q w j.2)
