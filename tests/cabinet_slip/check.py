@@ -15,12 +15,11 @@ ROOT = pathlib.Path(__file__).resolve().parents[2]
 # every crate that the samples need, each behind those that it needs itself
 LIBRARIES = [
     "faults", "states", "numbered", "grants", "conditions", "sheets", "register", "loans", "chains", "paths", "search",
-    "plain", "ledger", "controller",
+    "plain", "call_checks", "ledger", "controller",
 ]
 
 PROGRAM = """use controller::cabinet::Cabinet;
 use controller::slip::Slip;
-use sheets::rows::SheetLanguage;
 use sheets::sheet::Sheet;
 use states::report::Report;
 

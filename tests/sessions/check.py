@@ -22,7 +22,7 @@ def printed(program, arguments):
 
 
 def main():
-    program = sys.argv[1] if len(sys.argv) > 1 else str(ROOT / "target/bin/cabinet")
+    program = sys.argv[1] if len(sys.argv) > 1 else str(ROOT / "crates/cabinet/out/cabinet")
     files = sorted(HERE.glob("*.bin"))
     failed = 0
     for file in files:

@@ -1,4 +1,6 @@
 //! The checks of the calls that come before their effects, a few at a time, in the order of their numbers.
+#![tactic(auto)]
+
 ghost use Rattle.std.specs.Prelude.{◌≡◌, [], ◌∷◌, is_some, None};
 ghost use Rattle.states.specs.Ranges.{range_check};
 ghost use Rattle.states.specs.Reports.{state_of};

@@ -1,4 +1,6 @@
 //! Examples of command records: read, written, and refused at their offsets.
+#![tactic(auto)]
+
 #[cfg(test)]
 mod tests {
     use command_words::{Command, Outcome};

@@ -1,4 +1,6 @@
 //! Cases of states, books, sheets and layers, at their edges.
+#![tactic(auto)]
+
 #[cfg(test)]
 mod book_truths;
 #[cfg(test)]

@@ -1,8 +1,7 @@
 -- What a call answers, written down, is the plain answer written down.
-use Rattle.std.proofs.Common.{◌≡◌, ℕ, ◌+◌, List, replicate, Some, None, Option, sym, refl, ap, ◌∙◌, subst}
+use Rattle.std.proofs.Common.{◌≡◌, ℕ, List, Some, None, Option, sym, refl, subst}
 use Rattle.faults.specs.declared.Fault.{Fault}
 use Rattle.states.specs.declared.state.State.{State}
-use Rattle.states.specs.States.{kept}
 use Rattle.conditions.specs.declared.truth.Truth.{Truth}
 use Rattle.plain.specs.Record as plain
 use Rattle.plain.specs.Record.{World, Call, Answer, Number, Orphaned, Done, judged_by, first_fault, checks, whole}
@@ -11,7 +10,7 @@ use Rattle.controller.specs.declared.cabinet.Cabinet.{Cabinet}
 use Rattle.controller.specs.declared.slip.Slip.{Slip}
 use Rattle.controller.specs.declared.run.Call.{Call as Made}
 use Rattle.controller.specs.declared.run.Answer.{Answer as Written}
-use Rattle.controller.specs.Cabinets.{world, reply, Follows, slip_of, listed, spent}
+use Rattle.controller.specs.Cabinets.{reply, Follows, slip_of, listed, spent}
 use Rattle.controller.specs.Runs.{asked, shown, number_shown, orphans_shown, done_shown, slip_shown, spent_shown}
 
 module _ (w v : World) where

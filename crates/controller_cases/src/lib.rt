@@ -1,4 +1,6 @@
 //! Cases of the cabinet's calls, and of whole runs of them.
+#![tactic(auto)]
+
 #[cfg(test)]
 mod chains_of_grants;
 #[cfg(test)]

@@ -1,19 +1,17 @@
 -- The parts of a file are where the law says.
-use Rattle.std.proofs.Common.{◌≡◌, ℕ, zero, suc, ◌+◌, ◌*◌, ◌/◌, ◌%◌, ◌<◌, ◌≤◌, min, Bool, true, false, cond, eqb, leb, ◌⊎◌, List, [], ◌∷◌, ◌++◌, length, get_or, take, drop, Some, None, Ok, Err, Option, Result, sym, refl, ap, ◌∙◌, subst, inl, inr, append_assoc, append-nil, add-zero, div-add-mod', zero-add, arith, length-append, take-append-drop}
+use Rattle.std.proofs.Common.{◌≡◌, ℕ, zero, suc, ◌+◌, ◌*◌, ◌/◌, ◌%◌, ◌<◌, ◌≤◌, min, Bool, true, false, cond, eqb, leb, List, [], ◌∷◌, ◌++◌, length, get_or, take, drop, Some, None, Ok, Option, sym, refl, ap, ◌∙◌, subst, inl, inr, append_assoc, append-nil, add-zero, div-add-mod', zero-add, arith, length-append, take-append-drop}
 use native.Mathlib.Nat.{min-eq_left, min-eq_right}
 use lib.Seq.{take-length}
 use Rattle.std.specs.Option.{ok_or}
-use Rattle.std.specs.List.{AllByRecursion}
-use Rattle.std.proofs.lemmas.Bool.{leb-false, eq-eqb, eqb-true, eqb-false, cond-true, cond-false, true≢false}
-use Rattle.faults.specs.declared.Fault.{Fault}
+use Rattle.std.proofs.lemmas.Bool.{leb-false, eq-eqb, eqb-true, eqb-false, cond-true, cond-false}
 use Rattle.command_words.specs.Fields.{Field, spell, spells}
 use Rattle.commands.specs.Steps.{then, cut, alone}
 use Rattle.commands.specs.Law.{CutShort, ill}
-use Rattle.commands.proofs.Walks.{Stands, cut_stands}
+use Rattle.commands.proofs.Walks.{cut_stands}
 use Rattle.commands.proofs.Spelling.{Bytes}
 use Rattle.commands.proofs.Sound.{alone_is}
 use Rattle.commands.proofs.Laws.{cut_spell, spelled}
-use Rattle.frames.specs.Frames.{Parts, tagged, field_of, set_in, condition_length, book_length, split, and_then, laid_out}
+use Rattle.frames.specs.Frames.{tagged, field_of, set_in, condition_length, book_length, split, and_then, laid_out}
 use Rattle.frames.specs.Law.{Conditions, Book, Framed}
 use Rattle.frames.specs.Law.Book.{ended, cut_off}
 use Rattle.frames.proofs.Books.{first_passed, none_there}

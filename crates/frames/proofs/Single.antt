@@ -1,5 +1,5 @@
 -- The law of the frame has one answer only.
-use Rattle.std.proofs.Common.{◌≡◌, ℕ, ◌+◌, ◌*◌, min, Bool, true, false, cond, eqb, ◌⊎◌, List, [], ◌∷◌, ◌++◌, length, get_or, take, drop, Some, None, Ok, Err, Option, Result, sym, refl, ap, ◌∙◌, subst, inl, inr, append_assoc, append-nil, add-zero, add_assoc, zero-add, arith, length-append, take_at, drop_at}
+use Rattle.std.proofs.Common.{◌≡◌, ℕ, ◌+◌, ◌*◌, min, eqb, List, [], ◌∷◌, ◌++◌, length, get_or, take, drop, Some, None, Ok, Err, Option, Result, sym, refl, ap, ◌∙◌, subst, inl, inr, append_assoc, append-nil, add-zero, add_assoc, zero-add, arith, length-append, take_at, drop_at}
 use Rattle.std.specs.Option.{ok_or}
 use Rattle.std.proofs.lemmas.Bool.{cond-false, ne_eqb}
 use Rattle.faults.specs.declared.Fault.{Fault}
@@ -13,7 +13,7 @@ use Rattle.frames.specs.Frames.{Parts, field_of, set_in, book_length, split, and
 use Rattle.frames.specs.Law.{Conditions, Book, Framed}
 use Rattle.frames.specs.Law.Book.{ended, cut_off}
 use Rattle.frames.proofs.Books.{none_there}
-use Rattle.frames.proofs.Framing.{none_some, spell_found, found_spell, bytes_behind, none_left, whole_long, cut_long, set_spell}
+use Rattle.frames.proofs.Framing.{spell_found, found_spell, bytes_behind, none_left, whole_long, cut_long, set_spell}
 
 -- ---- how long a book is
 

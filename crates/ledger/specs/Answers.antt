@@ -1,5 +1,5 @@
 -- How the answers of the plain record are told by a call: as a value, or as a refusal.
-use Rattle.std.specs.Prelude.{ℕ, List, length, Some, None, Ok, Err, Option, Result}
+use Rattle.std.specs.Prelude.{ℕ, length, Some, None, Ok, Err, Option, Result}
 use Rattle.faults.specs.declared.Fault.{Fault}
 use Rattle.plain.specs.Record.{Answer, Refused, Number, Orphaned, Slip, Done}
 

@@ -1,5 +1,5 @@
 -- What a ledger holds, as the part of a cabinet that it is, and what its questions answer.
-use Rattle.std.specs.Prelude.{ℕ, ◌+◌, Bool, true, false, List, [], ◌∷◌, ◌++◌, length, is_some, Some, None, Ok, Err, Option, Result, slice_index}
+use Rattle.std.specs.Prelude.{ℕ, ◌+◌, Bool, true, List, [], ◌∷◌, ◌++◌, length, is_some, Some, None, Ok, Err, Option, Result, slice_index}
 use Rattle.std.specs.Option.{unwrap_or}
 use Rattle.faults.specs.declared.Fault.{Fault}
 use Rattle.faults.specs.declared.Refusal.TheVariants.{NoSuchGrant}
@@ -17,7 +17,7 @@ use Rattle.chains.specs.Laws.{recorded}
 use Rattle.chains.specs.Search.{stands, least_chain}
 use Rattle.search.specs.declared.named.Named.{Named}
 use Rattle.search.specs.Answers.{named_of}
-use Rattle.plain.specs.Record.{World, Call, Answer, Done, judged_by, lookup, first_fault, fit_checks, chainless, issue_checks, amend_checks, withdraw_checks, draw_before, step, whole}
+use Rattle.plain.specs.Record.{World, Call, Answer, Done, judged_by, lookup, first_fault, fit_checks, chainless, issue_checks, amend_checks, draw_before, step, whole}
 use Rattle.ledger.specs.declared.held.Ledger.{Ledger}
 use Rattle.ledger.specs.declared.terms.Terms.{Terms}
 use Rattle.ledger.specs.Answers.{unless}

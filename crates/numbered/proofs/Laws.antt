@@ -7,7 +7,7 @@ use Rattle.numbered.specs.declared.Insertion.{Insertion}
 use Rattle.numbered.specs.declared.Insertion.TheVariants.{Added, Taken, Full}
 use Rattle.numbered.specs.Answers.{PutLaws, WithoutLaws, KeptUnlessAdded, KeptIfNone}
 
--- `risesFrom` as a fact
+-- `rises_from` as a fact
 abbrev pub RisesFrom : {X : Type 0} → (X → ℕ) → ℕ → List X → Type 0
 RisesFrom f low [] = Unit {0}
 RisesFrom f low (x ∷ xs) = (low ≤ f x) × RisesFrom f (suc (f x)) xs

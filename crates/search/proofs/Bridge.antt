@@ -41,7 +41,7 @@ module _ (means : ℕ → State → Truth) (r : List Grant) (l : Links) (a h o :
     )
 
     -- a sound beginning c to p, and places w that lead on from it
-    pub record Goes_on (c : List Grant) (p t : ℕ) (w : List ℕ) : Type 0 where
+    pub record GoesOn (c : List Grant) (p t : ℕ) (w : List ℕ) : Type 0 where
       pub chain : Chain r h o c p
       pub valid : Valid means recorded c
       pub passes : AllByRecursion (λ (g : Grant). test g ≡ true) c
@@ -62,7 +62,7 @@ module _ (means : ℕ → State → Truth) (r : List Grant) (l : Links) (a h o :
     news [] x xs n = (tt, tt)
     news (b ∷ c) x xs n = let y = news c x xs n.1 in ((λ e. n.0.0 (sym e), y.0), (n.0.1, y.1))
 
-    step : (c : List Grant) (p t i : ℕ) (w : List ℕ) → Goes_on c p t (i ∷ w) → Goes_on (at r i ∷ c) (at r i).grantee t w
+    step : (c : List Grant) (p t i : ℕ) (w : List ℕ) → GoesOn c p t (i ∷ w) → GoesOn (at r i ∷ c) (at r i).grantee t w
     step c p t i w s =
         let g = at r i in
         let lt = s.low.0 in
@@ -94,7 +94,7 @@ module _ (means : ℕ → State → Truth) (r : List Grant) (l : Links) (a h o :
     abbrev pub Passes : List Grant → ℕ → Type 0
     Passes c t = Chain r h o c t × Valid means recorded c × AllByRecursion (λ (g : Grant). test g ≡ true) c
 
-    goes : (c : List Grant) (p t : ℕ) (w : List ℕ) → Goes_on c p t w → Passes (onto r w c) t
+    goes : (c : List Grant) (p t : ℕ) (w : List ℕ) → GoesOn c p t w → Passes (onto r w c) t
     goes c p t [] s = (subst (Chain r h o c) s.joins s.chain, s.valid, s.passes)
     goes c p t (i ∷ w) s = goes (at r i ∷ c) (at r i).grantee t w (step c p t i w s)
 

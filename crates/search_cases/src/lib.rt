@@ -1,4 +1,6 @@
 //! Cases of the search.
+#![tactic(auto)]
+
 pub mod masks;
 pub mod plain;
 

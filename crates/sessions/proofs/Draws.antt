@@ -12,11 +12,11 @@ use Rattle.controller.specs.declared.slip.RefusedSlip.{RefusedSlip}
 use Rattle.command_words.specs.declared.Outcome.{Outcome}
 use Rattle.command_words.specs.declared.Command.{Command}
 use Rattle.command_words.specs.declared.Command.TheVariants as commands
-use Rattle.plain.specs.Record.{World, Call, Issue, Amend, Withdraw, Draw, Return, Answer, Refused, Number, Orphaned, Slip, Done, judged_by, first_fault, checks, drawn, number_of, step, whole, hook_at}
+use Rattle.plain.specs.Record.{World, Issue, Amend, Withdraw, Draw, Return, Answer, Refused, Slip, Done, judged_by, first_fault, checks, drawn, number_of, step, whole, hook_at}
 use Rattle.controller.specs.declared.cabinet.Cabinet.{Cabinet}
 use Rattle.ledger.specs.Answers.{told, done}
 use Rattle.controller.specs.Cabinets.{world, reply, Follows, slip_of, spent}
-use Rattle.sessions.specs.Commands.{spends, followed, performed}
+use Rattle.sessions.specs.Commands.{spends, followed}
 use Rattle.sessions.specs.Performing.{Performs}
 use Rattle.sessions.proofs.Performed.{promised, spendable}
 

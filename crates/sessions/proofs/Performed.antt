@@ -1,5 +1,5 @@
 -- Commands on a cabinet that keeps parts of states only, and on the plain record.
-use Rattle.std.proofs.Common.{◌≡◌, ℕ, ◌+◌, ◌<◌, ◌≤◌, Bool, true, false, cond, ◌||◌, eqb, ltb, List, [], ◌∷◌, ◌++◌, length, get_or, set, Some, None, Ok, Err, Option, Result, sym, refl, ap, ◌∙◌, subst, arith, length-set, get_or-set_same}
+use Rattle.std.proofs.Common.{◌≡◌, ℕ, ◌+◌, ◌<◌, Bool, true, false, cond, eqb, ltb, List, [], ◌∷◌, ◌++◌, length, get_or, set, Some, None, Ok, Err, Option, Result, sym, refl, ap, ◌∙◌, subst, arith, get_or-set_same}
 use Rattle.std.proofs.lemmas.Bool.{eq-eqb, or_parts, ltb-false, true≢false}
 use Rattle.faults.specs.declared.Fault.{Fault}
 use Rattle.faults.specs.declared.Refusal.TheVariants.{NotPromised}
@@ -16,15 +16,15 @@ use Rattle.command_words.specs.declared.Outcome.{Outcome}
 use Rattle.command_words.specs.declared.Outcome.TheVariants.{Taken, Left}
 use Rattle.command_words.specs.declared.Command.{Command}
 use Rattle.command_words.specs.declared.Command.TheVariants as commands
-use Rattle.plain.specs.Record.{World, Call, Fit, Issue, Amend, Withdraw, Draw, Take, Leave, Return, Answer, Refused, Number, Orphaned, Slip, Done, new, judged_by, first_fault, found, checks, done, step, whole, with_hook, hook_at, owner}
+use Rattle.plain.specs.Record.{World, Call, Issue, Amend, Withdraw, Draw, Return, Answer, Refused, Number, Orphaned, Slip, Done, new, judged_by, first_fault, found, checks, done, step, whole, with_hook, hook_at, owner}
 use Rattle.plain.specs.Laws.{Fine, shrunk}
-use Rattle.plain.proofs.Checked.{Passed, off, all_pass, keeps_judged}
+use Rattle.plain.proofs.Checked.{off, all_pass}
 use Rattle.plain.proofs.Runs.{fine_new, fine_step}
 use Rattle.plain.proofs.Kept.{step_cut}
 use Rattle.ledger.specs.Answers.{told}
 use Rattle.sessions.specs.Lines.{line, verb_text, unread}
-use Rattle.sessions.specs.Sessions.{leaves, lines}
-use Rattle.sessions.specs.Commands.{call_of, spends, followed, left, performed}
+use Rattle.sessions.specs.Sessions.{lines}
+use Rattle.sessions.specs.Commands.{spends, followed, performed}
 
 -- a cabinet as the session finds it: what it holds is the plain record cut down
 pub record Shows (c w : World) : Type 0 where

@@ -1,4 +1,6 @@
 //! Cases of the numbered tables at their edges, and of the loans in every state.
+#![tactic(auto)]
+
 #[cfg(test)]
 mod loans_in_every_state;
 #[cfg(test)]

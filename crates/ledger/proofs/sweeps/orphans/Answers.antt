@@ -1,4 +1,4 @@
-use Rattle.std.proofs.Common.{◌≡◌, ℕ, suc, ◌+◌, ◌-◌, sym, ap, ◌∙◌, subst, arith}
+use Rattle.std.proofs.Common.{◌≡◌, ◌-◌, sym, ap, ◌∙◌, arith}
 use Rattle.ledger.specs.Sweeps.{is_orphan, orphans_from}
 use Rattle.ledger.proofs.Orphans.{orphans_more}
 use Rattle.ledger.proofs.sweeps.orphans.Goals as goal

@@ -1,4 +1,4 @@
-use Rattle.std.proofs.Common.{◌≡◌, ℕ, ◌+◌, ◌<◌, Bool, sym, ap, ◌∙◌, subst, arith}
+use Rattle.std.proofs.Common.{ℕ, ◌+◌, Bool, sym, ap, ◌∙◌, subst, arith}
 use Rattle.paths.proofs.Members.{Marks, marks_out}
 use Rattle.search.specs.Records.{at}
 use Rattle.search.proofs.Marked.{marks_shl}

@@ -1,4 +1,4 @@
-use Rattle.std.proofs.Common.{◌≡◌, ap, ◌∙◌}
+use Rattle.std.proofs.Common.{ap, ◌∙◌}
 use Rattle.controller.specs.Cabinets.{world}
 use Rattle.controller.specs.Runs.{number_shown, orphans_shown, done_shown, slip_shown, spent_shown}
 use Rattle.controller.proofs.Shown.{number_told, orphans_told, done_told, spent_told, slip_told, made_so}

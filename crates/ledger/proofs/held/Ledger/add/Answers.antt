@@ -1,6 +1,5 @@
-use Rattle.std.proofs.Common.{◌≡◌, ℕ, ◌+◌, List, [], ◌∷◌, ◌++◌, sym, ap, ◌∙◌, subst, arith}
+use Rattle.std.proofs.Common.{◌+◌, sym, ap, subst, arith}
 use Rattle.numbered.specs.Rows.{AllBelow}
-use Rattle.grants.specs.declared.Grant.{Grant}
 use Rattle.register.specs.Held.{held, numbers}
 use Rattle.plain.specs.Record.{with_grants}
 use Rattle.ledger.specs.Ledgers.{world_with}

@@ -1,4 +1,4 @@
-use Rattle.std.proofs.Common.{◌≡◌, ℕ, ◌+◌, ◌<◌, ◌≤◌, false, not, List, [], ◌∷◌, ◌++◌, length, is_some, Ok, Option, sym, refl, ap, ◌∙◌, subst, arith}
+use Rattle.std.proofs.Common.{◌≡◌, ◌+◌, ◌<◌, ◌≤◌, false, not, List, [], ◌∷◌, ◌++◌, length, is_some, Ok, Option, sym, refl, ap, ◌∙◌, subst, arith}
 use Rattle.std.proofs.lemmas.List.{length-take}
 use Rattle.numbered.specs.Rows.{without}
 use Rattle.grants.specs.declared.Grant.{Grant}
@@ -8,7 +8,7 @@ use Rattle.plain.specs.Record.{World, Answer, Amend, passed, grant_at, with_gran
 use Rattle.plain.proofs.Rows.{without_shorter}
 use Rattle.plain.proofs.Runs.{there}
 use Rattle.ledger.specs.Answers.{told}
-use Rattle.ledger.specs.Ledgers.{world_with, given, amend_on}
+use Rattle.ledger.specs.Ledgers.{world_with, amend_on}
 use Rattle.ledger.specs.Sweeps.{settled}
 use Rattle.ledger.proofs.Passing.{performs, refuses, amend_left, amended_is}
 use Rattle.ledger.proofs.held.Ledger.amend.Goals as goal

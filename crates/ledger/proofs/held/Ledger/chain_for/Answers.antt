@@ -1,12 +1,9 @@
-use Rattle.std.proofs.Common.{◌≡◌, ℕ, ◌≤◌, cond, IfOk, None, Result, sym, ap, ◌∙◌, subst}
+use Rattle.std.proofs.Common.{◌≡◌, ◌≤◌, cond, IfOk, None, Result, sym, ap, ◌∙◌, subst}
 use Rattle.faults.specs.declared.Fault.{Fault}
 use Rattle.search.specs.declared.named.Named.{Named}
 use Rattle.std.specs.Option.{ok_or}
 use Rattle.std.proofs.lemmas.Bool.{cond-true}
-use Rattle.states.specs.declared.state.State.{State}
 use Rattle.states.specs.Reports.{state_of}
-use Rattle.grants.specs.declared.Grant.{Grant}
-use Rattle.register.specs.Held.{held}
 use Rattle.chains.specs.Laws.{recorded}
 use Rattle.chains.specs.Search.{least_chain}
 use Rattle.search.specs.Answers.{named}

@@ -1,6 +1,6 @@
-use Rattle.std.proofs.Common.{◌≡◌, [], ◌∷◌, is_some, unwrap_or, sym, ap, ◌∙◌}
+use Rattle.std.proofs.Common.{[], ◌∷◌, is_some, unwrap_or, sym, ap, ◌∙◌}
 use Rattle.grants.specs.Blank.{blank}
-use Rattle.plain.specs.Record.{passed, person, own_grant, numbers_left, chainless}
+use Rattle.plain.specs.Record.{passed, own_grant, numbers_left, chainless}
 use Rattle.plain.proofs.Checked.{passed_on}
 use Rattle.ledger.specs.Ledgers.{stands_in}
 use Rattle.ledger.proofs.Passing.{terms, amend_person, amend_terms, amend_grant, amend_numbers}

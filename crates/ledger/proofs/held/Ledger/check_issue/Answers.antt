@@ -1,9 +1,9 @@
-use Rattle.std.proofs.Common.{◌≡◌, ℕ, [], ◌∷◌, length, sym, ap, ◌∙◌}
+use Rattle.std.proofs.Common.{[], ◌∷◌, length, sym, ap, ◌∙◌}
 use Rattle.register.specs.Held.{held}
 use Rattle.plain.specs.Record.{passed, chainless}
 use Rattle.plain.proofs.Checked.{passed_on}
 use Rattle.ledger.specs.Ledgers.{owner_in, stands_in}
-use Rattle.ledger.proofs.Passing.{parties, terms, room, issue_from_terms, issue_from_room, issue_parties, issue_terms, issue_room}
+use Rattle.ledger.proofs.Passing.{parties, terms, room, issue_parties, issue_terms, issue_room}
 use Rattle.ledger.proofs.held.Ledger.check_issue.Goals as goal
 
 pub returns : goal.returns

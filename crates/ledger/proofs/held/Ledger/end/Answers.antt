@@ -6,7 +6,7 @@ use Rattle.grants.specs.declared.Grant.{Grant}
 use Rattle.grants.specs.Blank.{blank}
 use Rattle.paths.specs.Sets.{member}
 use Rattle.register.specs.Held.{held, numbers}
-use Rattle.plain.specs.Record.{World, Answer, Orphaned, stands_on, with_grants, whole}
+use Rattle.plain.specs.Record.{World, Orphaned, stands_on, with_grants, whole}
 use Rattle.plain.proofs.Swept.{orphans_once}
 use Rattle.ledger.specs.Ledgers.{world_with, stands_in}
 use Rattle.ledger.specs.Sweeps.{place_before, is_orphan, orphans_from, settled}

@@ -1,10 +1,10 @@
-use Rattle.std.proofs.Common.{◌≡◌, ℕ, ◌+◌, List, [], ◌∷◌, ◌++◌, Ok, sym, refl, ap, ◌∙◌}
+use Rattle.std.proofs.Common.{◌+◌, List, [], ◌∷◌, ◌++◌, Ok, sym, refl, ap, ◌∙◌}
 use Rattle.grants.specs.declared.Grant.{Grant}
 use Rattle.loans.specs.declared.state.HookState.{HookState}
 use Rattle.register.specs.Held.{held}
 use Rattle.plain.specs.Record.{World, Answer, Issue, passed, with_grants}
 use Rattle.ledger.specs.Answers.{told}
-use Rattle.ledger.specs.Ledgers.{world_with, given, issue_on}
+use Rattle.ledger.specs.Ledgers.{world_with, issue_on}
 use Rattle.ledger.proofs.Passing.{performs, refuses, issue_left}
 use Rattle.ledger.proofs.held.Ledger.issue.Goals as goal
 

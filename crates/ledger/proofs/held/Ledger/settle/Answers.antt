@@ -1,9 +1,6 @@
-use Rattle.std.proofs.Common.{◌≡◌, ℕ, get_or, ap, ◌∙◌, subst, arith}
-use Rattle.grants.specs.Blank.{blank}
-use Rattle.paths.specs.Sets.{member}
-use Rattle.register.specs.Held.{held}
+use Rattle.std.proofs.Common.{ap, ◌∙◌}
 use Rattle.plain.specs.Record.{with_grants}
-use Rattle.ledger.specs.Ledgers.{world_with, stands_in}
+use Rattle.ledger.specs.Ledgers.{world_with}
 use Rattle.ledger.proofs.Sweeping.{stay_standing}
 use Rattle.ledger.proofs.held.Ledger.settle.Goals as goal
 

@@ -1,4 +1,4 @@
-use Rattle.std.proofs.Common.{◌≡◌, ◌+◌, sym, ap, ◌∙◌, subst}
+use Rattle.std.proofs.Common.{◌+◌, sym, ap, subst}
 use Rattle.numbered.specs.Rows.{AllBelow}
 use Rattle.register.specs.Held.{held, numbers}
 use Rattle.plain.specs.Record.{with_grants}

@@ -1,4 +1,4 @@
-use Rattle.std.proofs.Common.{◌≡◌, List, is_some, Option, unwrap_or, sym, refl, ap, ◌∙◌}
+use Rattle.std.proofs.Common.{List, is_some, Option, unwrap_or, sym, refl, ap, ◌∙◌}
 use Rattle.grants.specs.declared.Grant.{Grant}
 use Rattle.grants.specs.Blank.{blank}
 use Rattle.loans.specs.declared.state.HookState.{HookState}
