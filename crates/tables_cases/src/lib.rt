@@ -2,6 +2,8 @@
 #![tactic(auto)]
 
 #[cfg(test)]
+mod events_in_every_state;
+#[cfg(test)]
 mod loans_in_every_state;
 #[cfg(test)]
 mod register_at_edges;
