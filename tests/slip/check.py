@@ -1,9 +1,9 @@
 """How a slip may be handled, asked of the compiler itself.
 
 A slip is made by a draw and spent by take or leave, and in no other way. Each sample below is a small
-program over the crate `loans`. The first spends its slip, and builds. Each other one must not build, for
-the one error that is named. Nothing is proved here: `rt try` compiles a
-sample, and runs it where it builds.
+program over a crate that has slips, `loans` or `controller`. The first spends its slip, and builds. Each other
+one must not build, for the one error that is named. Nothing is proved here: `rt try` compiles a sample, and
+runs it where it builds.
 """
 import pathlib
 import shutil
@@ -12,9 +12,14 @@ import sys
 import tempfile
 
 ROOT = pathlib.Path(__file__).resolve().parents[2]
-LIBRARIES = ["faults", "numbered", "loans"]
 
-PROGRAM = """use loans::slip::Slip;
+# by the crate that has the slip: every crate that the samples need, each behind those that it needs itself; what takes
+# a slip; and the samples' program
+KINDS = {
+    "loans": (
+        ["faults", "numbered", "loans"],
+        "loans",
+        """use loans::slip::Slip;
 use loans::table::Loans;
 
 fn main() {
@@ -23,12 +28,37 @@ fn main() {
 %s
     }
 }
+""",
+    ),
+    "controller": (
+        [
+            "faults", "states", "numbered", "grants", "conditions", "sheets", "register", "loans", "chains", "paths", "search",
+            "plain", "call_checks", "ledger", "controller",
+        ],
+        "cabinet",
+        """use controller::cabinet::Cabinet;
+use controller::slip::Slip;
+use sheets::sheet::Sheet;
+use states::report::Report;
 
+fn main() {
+    let mut cabinet = Cabinet::new(Sheet::new());
+    let _ = cabinet.fit(&[1; 32], 0);
+    let report = Report { time: None, day: None, groups: None, path: None, level: None, status: None };
+    let mut chain = [0; 8];
+    if let Ok(slip) = cabinet.draw(1, 0, &report, &mut chain) {
+%s
+    }
+}
+""",
+    ),
+}
+PERSON = """
 fn person(slip: &Slip) -> u8 {
     slip.person()
 }
 """
-TAKE = """        match loans.take(slip) {
+TAKE = """        match TAKER.take(slip) {
             Ok(()) => {}
             Err(_) => unreachable(),
         }"""
@@ -44,35 +74,39 @@ SAMPLES = [
 ]
 
 
-def repository(folder):
-    """A repository of the crates that the samples need, as they stand here, and of one program."""
-    for name in LIBRARIES:
+def repository(folder, libraries):
+    """A repository of these crates, as they stand here, and of one program."""
+    for name in libraries:
         shutil.copytree(ROOT / "crates" / name, folder / "crates" / name, ignore=shutil.ignore_patterns("out", "must-fail"))
-    listed = [line for line in (ROOT / "crates.txt").read_text(encoding="utf-8").split("\n") if line.split(":")[0] in LIBRARIES]
-    (folder / "crates.txt").write_text("\n".join(listed) + f"\nvisit: {' '.join(LIBRARIES)}\n", encoding="utf-8")
+    listed = [line for line in (ROOT / "crates.txt").read_text(encoding="utf-8").split("\n") if line.split(":")[0] in libraries]
+    (folder / "crates.txt").write_text("\n".join(listed) + f"\nvisit: {' '.join(libraries)}\n", encoding="utf-8")
     (folder / "crates/visit/src").mkdir(parents=True)
     return folder / "crates/visit"
 
 
+def is_as_it_must_be(said, error):
+    errors = [line for line in said.split("\n") if "error[" in line]
+    if error is None:
+        return "run=ended status=0" in said and not errors
+    return "run=none" in said and bool(errors) and all(error in line for line in errors)
+
+
 def main():
     failed = 0
-    with tempfile.TemporaryDirectory() as folder:
-        visit = repository(pathlib.Path(folder))
-        for name, handling, error in SAMPLES:
-            (visit / "src/main.rt").write_text(PROGRAM % handling, encoding="utf-8")
-            run = subprocess.run(["rt", "try"], cwd=visit, capture_output=True, text=True)
-            said = run.stdout + run.stderr
-            errors = [line for line in said.split("\n") if "error[" in line]
-            if error is None:
-                good = "run=ended status=0" in said and not errors
-                verdict = "builds"
-            else:
-                good = "run=none" in said and errors and all(error in line for line in errors)
-                verdict = f"does not build: {error}"
-            print(f"slip {name}: {verdict if good else 'NOT AS IT MUST BE'}", flush=True)
-            if not good:
-                print(said[-3000:])
-                failed += 1
+    for kind, (libraries, taker, program) in KINDS.items():
+        with tempfile.TemporaryDirectory() as folder:
+            visit = repository(pathlib.Path(folder), libraries)
+            for name, handling, error in SAMPLES:
+                text = program % handling.replace("TAKER", taker) + PERSON
+                (visit / "src/main.rt").write_text(text, encoding="utf-8")
+                run = subprocess.run(["rt", "try"], cwd=visit, capture_output=True, text=True)
+                said = run.stdout + run.stderr
+                good = is_as_it_must_be(said, error)
+                verdict = "builds" if error is None else f"does not build: {error}"
+                print(f"slip of {kind}, {name}: {verdict if good else 'NOT AS IT MUST BE'}", flush=True)
+                if not good:
+                    print(said[-3000:])
+                    failed += 1
     return 1 if failed else 0
 
 
