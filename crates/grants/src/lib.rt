@@ -7,6 +7,7 @@ ghost use Rattle.grants.specs.Blank.{blank};
 use states::state::State;
 
 pub mod number;
+pub mod terms;
 
 /// What becomes of a grant that no chain justifies any more.
 #[derive(Clone, Copy, Debug, PartialEq, Eq)]
