@@ -13,7 +13,7 @@ use controller::cabinet::Cabinet;
 use controller::slip::Slip;
 use faults::Fault;
 use grants::Mode;
-use ledger::terms::Terms;
+use grants::terms::Terms;
 use states::report::Report;
 
 /// Spends the slip of a key that is promised so: the key is taken, or left.
