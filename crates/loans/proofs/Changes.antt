@@ -1,7 +1,6 @@
 -- What a loan more, a loan less and a key gone out mean for the hooks.
-use Rattle.std.proofs.Common.{◌≡◌, ℕ, ◌<◌, Bool, true, false, cond, eqb, List, length, get_or, set, is_some, Some, None, Option, sym, refl, ap, ◌∙◌, ⊎_elim, arith}
+use Rattle.std.proofs.Common.{◌≡◌, ℕ, ◌<◌, Bool, true, false, cond, eqb, List, length, get_or, set, is_some, Some, None, Ok, Option, sym, refl, ap, ◌∙◌, ⊎_elim, arith}
 use Rattle.std.proofs.lemmas.Bool.{cases_Bool, cond-true, cond-false, eqb-true, eqb-false, lt-leb}
-use Rattle.numbered.specs.declared.Insertion.TheVariants.{Added}
 use Rattle.numbered.specs.Rows.{Rises, AllBelow, row_of, place_of, put, without}
 use Rattle.numbered.specs.Answers.{insertion, answer_to}
 use Rattle.numbered.proofs.Laws.{put_laws, without_laws, rises_parts, place_left, row_at, row_number, row_none, means_set}
@@ -38,7 +37,7 @@ ended h xs r k =
 
 -- a hook that is in leaves a place in the table
 pub added : (loan : Loan) (xs : List Loan) → Rises hook_of xs → AllBelow hook_of 32 xs → loan.hook < 32 → state_at xs loan.hook ≡ In
-    → insertion hook_of loan 32 xs ≡ Added
+    → insertion hook_of loan 32 xs ≡ Ok tt
 added loan xs r b lt e =
     let free = none_in (row_of hook_of loan.hook xs) e in
     let room = place_left hook_of 0 32 loan.hook xs (rises_parts hook_of 0 xs r) b (omega arith) lt free in

@@ -1,11 +1,9 @@
 -- Laws of adding and removing: where the row goes, what the numbers mean then, and that they still rise.
-use Rattle.std.proofs.Common.{◌≡◌, ℕ, zero, suc, ◌+◌, ◌<◌, ◌≤◌, Bool, true, false, cond, ◌&&◌, eqb, ltb, leb, List, [], ◌∷◌, ◌++◌, length, get_or, set, is_some, Some, None, Option, sym, refl, ap, ◌∙◌, ⊎_elim, arith}
+use Rattle.std.proofs.Common.{◌≡◌, ℕ, zero, suc, ◌+◌, ◌<◌, ◌≤◌, Bool, true, false, cond, ◌&&◌, eqb, ltb, leb, List, [], ◌∷◌, ◌++◌, length, get_or, set, is_some, Some, None, Ok, Err, OnErr, Option, Result, sym, refl, ap, ◌∙◌, ⊎_elim, arith}
 use Rattle.std.proofs.lemmas.Bool.{ne_eqb, lt-ltb, eqb-true, eqb-false, cases_lt, ltb-true, ltb-false, cases_Bool, cond-true, cond-false, cond_both, and_parts, and_from, leb-true, le-leb}
 use Rattle.std.specs.List.{insert, remove}
 use Rattle.numbered.specs.Rows.{rises_from, place_from, row_of, put, before, without, all_below, AllBelow}
-use Rattle.numbered.specs.declared.Insertion.{Insertion}
-use Rattle.numbered.specs.declared.Insertion.TheVariants.{Added, Taken, Full}
-use Rattle.numbered.specs.Answers.{PutLaws, WithoutLaws, KeptUnlessAdded, KeptIfNone}
+use Rattle.numbered.specs.Answers.{PutLaws, WithoutLaws, KeptIfNone}
 
 -- `rises_from` as a fact
 abbrev pub RisesFrom : {X : Type 0} → (X → ℕ) → ℕ → List X → Type 0
@@ -243,10 +241,9 @@ module _ {X : Type 0} (f : X → ℕ) where
       (cases_Bool (eqb (f y) n))
 
 -- what a refusal keeps, in other words
-pub kept_unless_added : (r : Insertion) {P Q : Type 0} → (P → Q) → KeptUnlessAdded r P → KeptUnlessAdded r Q
-kept_unless_added Added step k = tt
-kept_unless_added Taken step k = step k
-kept_unless_added Full step k = step k
+pub kept_unless_added : {E : Type 0} (r : Result (Unit {0}) E) {P Q : Type 0} → (P → Q) → OnErr r P → OnErr r Q
+kept_unless_added (Ok u) step k = tt
+kept_unless_added (Err e) step k = step k
 
 pub kept_if_none : {X : Type 0} (o : Option X) {P Q : Type 0} → (P → Q) → KeptIfNone o P → KeptIfNone o Q
 kept_if_none None step k = step k

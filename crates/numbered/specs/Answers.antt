@@ -1,30 +1,23 @@
 -- What adding and removing answer, and what the table then holds and means.
-use Rattle.std.specs.Prelude.{◌≡◌, ℕ, Bool, true, false, cond, List, [], ◌∷◌, ◌++◌, length, is_some, Some, None, Option, ◌==◌, ◌≢◌, nat_le}
-use Rattle.numbered.specs.declared.Insertion.{Insertion}
-use Rattle.numbered.specs.declared.Insertion.TheVariants.{Added, Taken, Full}
+use Rattle.std.specs.Prelude.{◌≡◌, ℕ, Bool, true, false, cond, List, [], ◌∷◌, ◌++◌, length, is_some, Some, None, Ok, Err, Option, Result, ◌==◌, ◌≢◌, nat_le}
+use Rattle.numbered.specs.declared.NotAdded.{NotAdded}
+use Rattle.numbered.specs.declared.NotAdded.TheVariants.{Taken, Full}
 use Rattle.numbered.specs.Rows.{Rises, row_of, put, without, AllBelow}
 
 -- the answer, by whether the number is there already and whether every place is in use
-abbrev pub answer_to : Bool → Bool → Insertion
-answer_to true full = Taken
-answer_to false true = Full
-answer_to false false = Added
+abbrev pub answer_to : Bool → Bool → Result (Unit {0}) NotAdded
+answer_to true full = Err Taken
+answer_to false true = Err Full
+answer_to false false = Ok tt
 
 -- the answer to adding x to rows that have `size` places
-abbrev pub insertion : {X : Type 0} → (X → ℕ) → X → ℕ → List X → Insertion
+abbrev pub insertion : {X : Type 0} → (X → ℕ) → X → ℕ → List X → Result (Unit {0}) NotAdded
 insertion f x size xs = answer_to (is_some (row_of f (f x) xs)) (nat_le size (length xs))
 
 -- the rows after such an answer
-abbrev pub after_insertion : {X : Type 0} → (X → ℕ) → X → List X → Insertion → List X
-after_insertion f x xs Added = put f x xs
-after_insertion f x xs Taken = xs
-after_insertion f x xs Full = xs
-
--- the rows and the count are what they were, unless x was added
-abbrev pub KeptUnlessAdded : Insertion → Type 0 → Type 0
-KeptUnlessAdded Added Kept = Unit {0}
-KeptUnlessAdded Taken Kept = Kept
-KeptUnlessAdded Full Kept = Kept
+abbrev pub after_insertion : {X : Type 0} → (X → ℕ) → X → List X → Result (Unit {0}) NotAdded → List X
+after_insertion f x xs (Ok u) = put f x xs
+after_insertion f x xs (Err e) = xs
 
 -- the rows and the count are what they were, if no row was taken out
 abbrev pub KeptIfNone : {X : Type 0} → Option X → Type 0 → Type 0

@@ -3,9 +3,9 @@
 //! the slice means that every place is.
 #![tactic(auto)]
 
-ghost use Rattle.std.specs.Prelude.{◌≡◌, ℕ, ◌-◌, ◌<◌, ◌≤◌, ◌++◌, length, take, drop, IfSome, ◌==◌, nat_lt};
+ghost use Rattle.std.specs.Prelude.{◌≡◌, ℕ, ◌-◌, ◌<◌, ◌≤◌, ◌++◌, length, take, drop, IfSome, OnErr, ◌==◌, nat_lt};
 ghost use Rattle.numbered.specs.Rows.{Rises, place_of, row_of, without, before};
-ghost use Rattle.numbered.specs.Answers.{insertion, after_insertion, KeptUnlessAdded, KeptIfNone, PutLaws, WithoutLaws};
+ghost use Rattle.numbered.specs.Answers.{insertion, after_insertion, KeptIfNone, PutLaws, WithoutLaws};
 
 /// What has a number.
 pub trait Numbered {
@@ -15,14 +15,12 @@ pub trait Numbered {
         ensures { result ≡ label self.now };
 }
 
-/// What came of adding a row.
+/// Why a row was not added; nothing is altered then.
 #[derive(Clone, Copy, Debug, PartialEq, Eq)]
-pub enum Insertion {
-    /// The row stands in the table, in the order of the numbers.
-    Added,
-    /// A row of that number was there already; nothing is altered.
+pub enum NotAdded {
+    /// A row of that number was there already.
     Taken,
-    /// Every place is in use; nothing is altered.
+    /// Every place is in use.
     Full,
 }
 
@@ -84,35 +82,36 @@ fn rank<T: Numbered>(rows: &[T], n: u32) -> usize
     ensures is { result ≡ before T.label n rows.now }
     ensures within { result ≤ length rows.now }
 {
-    let mut at = 0;
-    while at < rows.len() && is_below(&rows[at], n) {
-        at += 1;
+    for (i, row) in rows.iter().enumerate() {
+        if !is_below(row, n) {
+            return i;
+        }
     }
-    at
+    rows.len()
 }
 
 /// Adds `row` in its place among the first `count` rows.
-pub fn insert<T: Numbered + Copy>(rows: &mut [T], count: &mut usize, row: T) -> Insertion
+pub fn insert<T: Numbered + Copy>(rows: &mut [T], count: &mut usize, row: T) -> Result<(), NotAdded>
     ensures is { result ≡ insertion T.label row (length rows.old) (take count.old rows.old) }
     ensures after { take count.new rows.new ≡ after_insertion T.label row (take count.old rows.old) result }
     ensures within { count.old ≤ length rows.old → count.new ≤ length rows.old }
     ensures rises { Rises T.label (take count.old rows.old) → Rises T.label (take count.new rows.new) }
-    ensures refused { KeptUnlessAdded result ((rows.new ≡ rows.old) × (count.new ≡ count.old)) }
+    ensures refused { OnErr result ((rows.new ≡ rows.old) × (count.new ≡ count.old)) }
     ensures law { PutLaws T.label row (take count.old rows.old) }
 {
     let n = row.number();
     let used = in_use(rows, *count);
     if find(&rows[0..used], n).is_some() {
-        return Insertion::Taken;
+        return Err(NotAdded::Taken);
     }
     if used == rows.len() {
-        return Insertion::Full;
+        return Err(NotAdded::Full);
     }
     let at = rank(&rows[0..used], n);
     rows[used] = row;
     last_to_front(&mut rows[at..used + 1]);
     *count = used + 1;
-    Insertion::Added
+    Ok(())
 }
 
 /// Takes the row numbered `n` out of the first `count` rows, and answers it; the later rows move up.

@@ -1,7 +1,6 @@
 -- What a register holds: the grants on record, in the order of their numbers.
-use Rattle.std.specs.Prelude.{◌≡◌, ℕ, suc, ◌/◌, ◌%◌, ◌^◌, ◌<◌, Bool, cond, List, [], ◌∷◌, ◌++◌, length, take, ◌==◌}
-use Rattle.numbered.specs.declared.Insertion.{Insertion}
-use Rattle.numbered.specs.declared.Insertion.TheVariants.{Added}
+use Rattle.std.specs.Prelude.{◌≡◌, ℕ, suc, ◌/◌, ◌%◌, ◌^◌, ◌<◌, Bool, cond, List, [], ◌∷◌, ◌++◌, length, take, Ok, Result, ◌==◌}
+use Rattle.numbered.specs.declared.NotAdded.{NotAdded}
 use Rattle.numbered.specs.Rows.{AllBelow}
 use Rattle.grants.specs.declared.Grant.{Grant}
 use Rattle.register.specs.declared.table.Register.{Register}
@@ -30,5 +29,5 @@ abbrev pub Unmoved : Register → Register → Type 0
 Unmoved before after = (after.rows ≡ before.rows) × (after.count ≡ before.count)
 
 -- a grant whose number is above all others is added at the end, where fewer than 96 are held
-abbrev pub Appends : Grant → List Grant → Insertion → List Grant → Type 0
-Appends g before r after = AllBelow numbers g.number before → length before < 96 → (r ≡ Added) × (after ≡ before ++ (g ∷ []))
+abbrev pub Appends : Grant → List Grant → Result (Unit {0}) NotAdded → List Grant → Type 0
+Appends g before r after = AllBelow numbers g.number before → length before < 96 → (r ≡ Ok tt) × (after ≡ before ++ (g ∷ []))

@@ -1,13 +1,13 @@
 //! The grants on record: found, added and removed by number, with their order kept.
 #![tactic(auto)]
 
-ghost use Rattle.std.specs.Prelude.{◌≡◌, ◌<◌, ◌≤◌, [], length, take, IfSome};
+ghost use Rattle.std.specs.Prelude.{◌≡◌, ◌<◌, ◌≤◌, [], length, take, IfSome, OnErr};
 ghost use Rattle.numbered.specs.Rows.{place_of, row_of, without};
-ghost use Rattle.numbered.specs.Answers.{insertion, after_insertion, KeptUnlessAdded, KeptIfNone};
+ghost use Rattle.numbered.specs.Answers.{insertion, after_insertion, KeptIfNone};
 ghost use Rattle.register.specs.Held.{held, numbers, has_place, chosen, Unmoved, Appends};
 
 use grants::Grant;
-use numbered::Insertion;
+use numbered::NotAdded;
 
 pub mod table;
 
@@ -49,10 +49,10 @@ impl Register {
         }
     }
 
-    fn add(&mut self, grant: Grant) -> Insertion
+    fn add(&mut self, grant: Grant) -> Result<(), NotAdded>
         ensures is { result ≡ insertion numbers grant 96 (held self.old) }
         ensures after { held self.new ≡ after_insertion numbers grant (held self.old) result }
-        ensures refused { KeptUnlessAdded result (Unmoved self.old self.new) }
+        ensures refused { OnErr result (Unmoved self.old self.new) }
     {
         numbered::insert(&mut self.rows, &mut self.count, grant)
     }
@@ -66,10 +66,10 @@ impl Register {
     }
 
     /// Adds a grant in the order of the numbers; one whose number is above all others comes last.
-    pub fn insert(&mut self, grant: Grant) -> Insertion
+    pub fn insert(&mut self, grant: Grant) -> Result<(), NotAdded>
         ensures is { result ≡ insertion numbers grant 96 (held self.old) }
         ensures after { held self.new ≡ after_insertion numbers grant (held self.old) result }
-        ensures refused { KeptUnlessAdded result (self.new ≡ self.old) }
+        ensures refused { OnErr result (self.new ≡ self.old) }
         ensures law { Appends grant (held self.old) result (held self.new) }
     {
         self.add(grant)

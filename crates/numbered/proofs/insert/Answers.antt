@@ -27,10 +27,10 @@ returns-then-is_some g c =
     let taken = there f c.args.row rows count _ _ _ _ true c.in_use-used.ensures.is c.number-n.ensures c.find.ensures.is c.is_some.ensures c.if-is_some.true in
     record {
       is = ap (λ t. answer_to t (leb (length rows) (length (take count rows)))) (sym taken);
-      after = refl;
+      after = refl {a = take count rows};
       within = λ h. h;
       rises = λ h. h;
-      refused = (refl, refl);
+      refused = (refl {a = rows}, refl {a = count});
       law = put_laws f c.args.row (take count rows);
     }
 
@@ -43,10 +43,10 @@ returns-then-used-rows g c =
     let full : leb (length rows) (length (take count rows)) ≡ true = le-leb _ _ (omega arith) in
     record {
       is = λ i. answer_to (sym free i) (sym full i);
-      after = refl;
+      after = refl {a = take count rows};
       within = λ h. h;
       rises = λ h. h;
-      refused = (refl, refl);
+      refused = (refl {a = rows}, refl {a = count});
       law = put_laws f c.args.row (take count rows);
     }
 

@@ -1,5 +1,5 @@
-use Rattle.std.proofs.Common.{◌≡◌, ℕ, ◌<◌, List, sym, ap, ◌∙◌, subst, arith}
-use Rattle.numbered.specs.declared.Insertion.{Insertion}
+use Rattle.std.proofs.Common.{◌≡◌, ℕ, ◌<◌, List, Result, sym, ap, ◌∙◌, subst, arith}
+use Rattle.numbered.specs.declared.NotAdded.{NotAdded}
 use Rattle.numbered.specs.Rows.{AllBelow, put}
 use Rattle.numbered.specs.Answers.{insertion, after_insertion}
 use Rattle.numbered.proofs.Laws.{below_put}
@@ -12,7 +12,7 @@ use Rattle.loans.proofs.Changes.{state_at, added, begun}
 use Rattle.loans.proofs.table.Loans.promise.Goals as goal
 
 -- at a hook that is in the loan is added
-is_put : (ls : Loans) (loan : Loan) (size : ℕ) (r : Insertion) (after : List Loan) → size ≡ 32 → loan.hook < 32 → state_of ls loan.hook ≡ In
+is_put : (ls : Loans) (loan : Loan) (size : ℕ) (r : Result (Unit {0}) NotAdded) (after : List Loan) → size ≡ 32 → loan.hook < 32 → state_of ls loan.hook ≡ In
     → r ≡ insertion hook_of loan size (loans_in ls) → after ≡ after_insertion hook_of loan (loans_in ls) r → after ≡ put hook_of loan (loans_in ls)
 is_put ls loan size r after long lt free is e =
     let old = loans_in ls in
