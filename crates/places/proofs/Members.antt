@@ -2,9 +2,9 @@
 use Rattle.std.proofs.Common.{◌≡◌, ℕ, zero, suc, ◌+◌, ◌-◌, ◌/◌, ◌%◌, ◌^◌, ◌<◌, ◌≤◌, Bool, true, false, not, ◌&&◌, ◌||◌, eqb, ltb, sym, refl, ap, ◌∙◌, subst, ⊎_elim, mul_comm, pow-suc, div-one, one-add, arith, below_more}
 use native.Mathlib.Nat.{mul-mod_left, div_self}
 use lib.Count.{count_trailing_zeros, under}
-use lib.Bits.{bit_and, bit_or, bit_xor, and_shr, or_shr, xor_shr, and_mod, or_mod, xor_mod}
-use Rattle.std.proofs.lemmas.Nat.{mod_below, pow_pos, pow-add, pow_below, shl-shr, shr_le, shr-shr, div_below, div-add-mod'}
-use Rattle.std.proofs.lemmas.Bool.{eq-eqb, ne_eqb, lt-ltb, cases_order, cases_eq}
+use lib.Bits.{bit_and, bit_or, bit_xor, and_self, xor_add_and, and_shr, or_shr, xor_shr, and_mod, or_mod, xor_mod}
+use Rattle.std.proofs.lemmas.Nat.{and_assoc, mod_below, pow_pos, pow-add, pow_below, shl-shr, shr_le, shr-shr, div_below, div-add-mod'}
+use Rattle.std.proofs.lemmas.Bool.{and_from, both_ways, eq-eqb, ne_eqb, lt-ltb, cases_order, cases_eq}
 use Rattle.places.specs.Sets.{member}
 
 -- what holds of the four pairs of bits holds of all
@@ -158,3 +158,12 @@ module _ (P : ℕ → Bool → Type 0) where
         (λ low. subst (P i) (sym (added_same s t i low (e i))) p),
     λ k le. added_other s t i k (ltb i 128) (e k) (λ q. omega arith) ∙ h.1 k (omega arith),
   )
+
+-- a set without a place that it had is smaller, as a number
+pub smaller : (s p i : ℕ) → member s i ≡ true → member p i ≡ true → bit_xor s (bit_and s p) < s
+smaller s p i here there =
+    let m = bit_and s p in
+    let both : member m i ≡ true = member_and s p i ∙ and_from _ _ here there in
+    let some : m ≡ 0 → ⊥ = λ e. both_ways (member 0 i) (member_zero i) (sym (ap (λ z. member z i) e) ∙ both) in
+    let again : bit_and s m ≡ m = sym (and_assoc p s s) ∙ ap (λ z. bit_and z p) (and_self s) in
+    omega (arith, xor_add_and s m, again, some)

@@ -4,7 +4,8 @@
 
 ghost use Rattle.std.specs.Prelude.{◌≡◌, ℕ, ◌<◌, ◌≤◌, false, not, ◌&&◌, ◌||◌, length, ◌==◌, nat_lt, bit_and, bit_xor, slice_index_or};
 ghost use Rattle.std.specs.Fn.{FnReturnsAt};
-ghost use Rattle.places.specs.Sets.{member};
+ghost use Rattle.std.specs.Iterator.{at_most};
+ghost use Rattle.places.specs.Sets.{member, IsFirst, TakesFirst};
 
 /// Whether place `i` is in the set. No set has a place from 128 on.
 pub fn has(set: u128, i: usize) -> bool
@@ -56,4 +57,34 @@ pub fn select<T, F: Fn(&T) -> bool>(items: &[T], test: F) -> u128
         }
     }
     set
+}
+
+/// The lowest place of the set.
+pub fn first(set: u128) -> Option<usize>
+    ensures { IsFirst set result }
+{
+    if set == 0 {
+        return None;
+    }
+    Some(set.trailing_zeros() as usize)
+}
+
+/// The places of a set, by rising number: `rest` has those that are still to come.
+#[derive(Clone, Copy)]
+pub struct Places {
+    pub rest: u128,
+}
+
+impl Iterator for Places {
+    type Item = usize;
+
+    ghost next_gives = { λ s r t. TakesFirst s.rest r t.rest };
+
+    ghost remaining = { λ s. at_most s.rest };
+
+    fn next(&mut self) -> Option<usize> {
+        let i = first(self.rest)?;
+        self.rest = without(self.rest, with_place(0, i));
+        Some(i)
+    }
 }
