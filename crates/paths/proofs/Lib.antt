@@ -1,4 +1,3 @@
-pub mod Members
 pub mod Tables
 mod Chains
 mod Walks

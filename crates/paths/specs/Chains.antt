@@ -1,13 +1,18 @@
 -- Chains over links. A chain is the list of its places, the owner's grant first.
-use Rattle.std.specs.Prelude.{◌≡◌, ℕ, ◌-◌, ◌<◌, ◌≤◌, true, ◌⊎◌, List, [], ◌∷◌, ◌++◌, map, length, replicate, Some, None, Option, ◌≢◌, slice_index}
+use Rattle.std.specs.Prelude.{◌≡◌, ℕ, ◌-◌, ◌<◌, ◌≤◌, true, ◌⊎◌, List, [], ◌∷◌, ◌++◌, map, length, replicate, Some, None, Option, ◌≢◌, slice_index_or}
 use Rattle.paths.specs.Sets.{member}
+use Rattle.paths.specs.declared.links.Link.{Link}
 use Rattle.paths.specs.declared.links.Links.{Links}
 use Rattle.paths.specs.declared.route.Route.{Route}
+
+-- the link at a place
+abbrev pub link : Links → ℕ → Link
+link l i = slice_index_or l.links i (record { giver = 0; taker = 0; row = 0 })
 
 -- the first grant is by p, each next one by the taker before, and the last is to q
 abbrev pub Joins : Links → ℕ → List ℕ → ℕ → Type 0
 Joins l p [] q = p ≡ q
-Joins l p (i ∷ is) q = (i < l.count) × (slice_index l.giver i ≡ p) × Joins l (slice_index l.taker i) is q
+Joins l p (i ∷ is) q = (i < l.count) × ((link l i).giver ≡ p) × Joins l (link l i).taker is q
 
 -- every place is in the set
 abbrev pub AllIn : ℕ → List ℕ → Type 0
@@ -17,7 +22,7 @@ AllIn s (i ∷ is) = (member s i ≡ true) × AllIn s is
 -- each grant is admitted by every one before it
 abbrev pub Admitted : Links → List ℕ → Type 0
 Admitted l [] = Unit {0}
-Admitted l (i ∷ is) = AllIn (slice_index l.row i) is × Admitted l is
+Admitted l (i ∷ is) = AllIn (link l i).row is × Admitted l is
 
 -- x is none of them
 abbrev pub NoneOf : ℕ → List ℕ → Type 0
@@ -31,7 +36,7 @@ Apart (x ∷ xs) = NoneOf x xs × Apart xs
 
 -- the persons that the grants are to
 abbrev pub reached : Links → List ℕ → List ℕ
-reached l w = map (λ i. slice_index l.taker i) w
+reached l w = map (λ i. (link l i).taker) w
 
 -- a chain from the owner to the target over the allowed places
 pub record Chain (l : Links) (owner target allowed : ℕ) (w : List ℕ) : Type 0 where

@@ -1,29 +1,33 @@
--- What a plan's tables hold, and a net against the links that it was made from.
-use Rattle.std.specs.Prelude.{◌≡◌, ℕ, ◌<◌, not, ◌&&◌, List, ◌==◌, slice_index}
-use Rattle.paths.specs.Sets.{member}
+-- What a plan's steps hold, against the links that it was made from.
+use Rattle.std.specs.Prelude.{◌≡◌, ℕ, ◌<◌, not, ◌&&◌, List, ◌==◌, nat_lt, slice_index_or}
+use Rattle.places.specs.Sets.{member}
+use Rattle.paths.specs.Chains.{link}
 use Rattle.paths.specs.declared.links.Links.{Links}
-use Rattle.paths.specs.declared.net.Net.{Net}
+use Rattle.paths.specs.declared.plan.Step.{Step}
+
+-- the step at a place
+abbrev pub step : List Step → ℕ → Step
+step steps i = slice_index_or steps i (record { keep = 0; onward = 0 })
+
+-- s holds just the places that are given by p
+abbrev pub Given : Links → ℕ → ℕ → Type 0
+Given l p s = (j : ℕ) → member s j ≡ (nat_lt j l.count && (link l j).giver == p)
+
+-- s holds just the places that lead to p
+abbrev pub Leading : Links → ℕ → ℕ → Type 0
+Leading l p s = (j : ℕ) → member s j ≡ (nat_lt j l.count && (link l j).taker == p)
 
 -- up to place m: what a place admits, less the places that lead to its taker once more
-abbrev pub NarrowedTo : List ℕ → List ℕ → ℕ → ℕ → List ℕ → Type 0
-NarrowedTo rows takers count m keep =
-    (i j : ℕ) → (i < m) × (j < count) → member (slice_index keep i) j ≡ (member (slice_index rows i) j && not (slice_index takers j == slice_index takers i))
+abbrev pub NarrowedTo : Links → ℕ → List Step → Type 0
+NarrowedTo l m steps =
+    (i j : ℕ) → (i < m) × (j < l.count) → member (step steps i).keep j ≡ (member (link l i).row j && not ((link l j).taker == (link l i).taker))
 
-abbrev pub Narrowed : List ℕ → List ℕ → ℕ → List ℕ → Type 0
-Narrowed rows takers count keep = NarrowedTo rows takers count count keep
+abbrev pub Narrowed : Links → List Step → Type 0
+Narrowed l steps = NarrowedTo l l.count steps
 
 -- up to place m: the places that are given by its taker
-abbrev pub FollowedTo : List ℕ → List ℕ → ℕ → ℕ → List ℕ → Type 0
-FollowedTo givers takers count m onward =
-    (i j : ℕ) → (i < m) × (j < count) → member (slice_index onward i) j ≡ (slice_index givers j == slice_index takers i)
+abbrev pub FollowedTo : Links → ℕ → List Step → Type 0
+FollowedTo l m steps = (i : ℕ) → i < m → Given l (link l i).taker (step steps i).onward
 
-abbrev pub Followed : List ℕ → List ℕ → ℕ → List ℕ → Type 0
-Followed givers takers count onward = FollowedTo givers takers count count onward
-
--- a net of these links, to this target
-pub record Tied (l : Links) (t : ℕ) (n : Net) : Type 0 where
-  pub count : n.count ≡ l.count
-  pub giver : n.giver ≡ l.giver
-  pub taker : n.taker ≡ l.taker
-  pub target : n.target ≡ t
-  pub keep : Narrowed l.row l.taker l.count n.keep
+abbrev pub Followed : Links → List Step → Type 0
+Followed l steps = FollowedTo l l.count steps

@@ -8,7 +8,6 @@ mod net;
 pub mod plan;
 pub mod route;
 mod search;
-mod sets;
 mod walk;
 
-pub use sets::without;
+pub use places::without;

@@ -1,21 +1,28 @@
 //! A memory of searches that failed.
 ghost use Rattle.std.specs.Prelude.{◌≡◌, ℕ, true, ◌==◌, bit_and};
 ghost use Rattle.paths.specs.Steps.{Never};
-ghost use Rattle.paths.specs.declared.net.Net.{Net};
+ghost use Rattle.paths.specs.declared.plan.Plan.{Plan};
 ghost use Rattle.paths.specs.Memories.{Failed};
 
-/// The last 32 searches that failed with one number of steps left: from whom, and with which
-/// set of places.
+/// A search that failed: from whom, and with which set of places.
+#[derive(Clone, Copy)]
+pub(crate) struct Failure {
+    pub person: u8,
+    pub allowed: u128,
+}
+
+/// The last 32 searches that failed with one number of steps left.
 #[derive(Clone, Copy)]
 pub(crate) struct Failures {
-    pub people: [u8; 32],
-    pub sets: [u128; 32],
+    pub noted: [Failure; 32],
     pub next: usize,
 }
 
 pub(crate) const FRESH: Failures = Failures {
-    people: [0; 32],
-    sets: [0; 32],
+    noted: [Failure {
+        person: 0,
+        allowed: 0,
+    }; 32],
     next: 0,
 };
 
@@ -28,22 +35,19 @@ fn is_within(set: u128, whole: u128) -> bool
 
 /// Whether a search that failed had these places, and perhaps more.
 pub(crate) fn is_known(failures: &Failures, at: u8, allowed: u128) -> bool
-    ensures { result ≡ true → (n : Net) (k : ℕ) → Failed n k failures.now → Never n allowed at k }
+    ensures { result ≡ true → (n : Plan) (t k : ℕ) → Failed n t k failures.now → Never n t allowed at k }
 {
-    for j in 0..32 {
-        if failures.people[j] == at && is_within(allowed, failures.sets[j]) {
-            return true;
-        }
-    }
-    false
+    failures.noted.iter().any(|failure| failure.person == at && is_within(allowed, failure.allowed))
 }
 
 /// Notes a search that failed, in the place of the oldest.
 pub(crate) fn note(failures: &mut Failures, at: u8, allowed: u128)
-    ensures { (n : Net) (k : ℕ) → Failed n k failures.old → Never n allowed at k → Failed n k failures.new }
+    ensures { (n : Plan) (t k : ℕ) → Failed n t k failures.old → Never n t allowed at k → Failed n t k failures.new }
 {
     let j = failures.next % 32;
-    failures.people[j] = at;
-    failures.sets[j] = allowed;
+    failures.noted[j] = Failure {
+        person: at,
+        allowed,
+    };
     failures.next = j + 1;
 }

@@ -1,29 +1,31 @@
 //! A plan, and the best chain over it.
-ghost use Rattle.std.specs.Prelude.{◌≡◌, ℕ, ◌<◌, min, ◌==◌, slice_index};
-ghost use Rattle.paths.specs.Sets.{member};
-ghost use Rattle.paths.specs.Chains.{Best};
-ghost use Rattle.paths.specs.Memories.{Ready};
-ghost use Rattle.paths.specs.Plans.{Tied};
+ghost use Rattle.std.specs.Prelude.{◌≡◌, ℕ, ◌<◌, min, not, ◌&&◌, ◌==◌, nat_lt, bit_and};
+ghost use Rattle.places.specs.Sets.{member};
+ghost use Rattle.paths.specs.Chains.{Best, link};
+ghost use Rattle.paths.specs.Plans.{Given, Leading, step};
+ghost use Rattle.paths.specs.Memories.{Layers};
 
 use crate::links::Links;
 use crate::net::Net;
-use crate::plan::Plan;
+use crate::plan::{Plan, Step};
 use crate::route::Route;
-use crate::sets::{layers, places_of, without};
 use crate::walk::shortest;
+use places::{meet, select, without};
 
-/// The places that lead to the person.
-fn places_to(links: &Links, person: u8) -> u128
-    ensures { (j : ℕ) → j < links.now.count → member result j ≡ (slice_index links.now.taker j == person) }
-{
-    places_of(&links.taker, person)
-}
+impl Links {
+    /// The places that lead to the person.
+    fn to(&self, person: u8) -> u128
+        ensures { Leading self.now person result }
+    {
+        select(&self.links[..self.count], |link| link.taker == person)
+    }
 
-/// The places that are given by the person.
-fn places_by(links: &Links, person: u8) -> u128
-    ensures { (j : ℕ) → j < links.now.count → member result j ≡ (slice_index links.now.giver j == person) }
-{
-    places_of(&links.giver, person)
+    /// The places that are given by the person.
+    fn by(&self, person: u8) -> u128
+        ensures { Given self.now person result }
+    {
+        select(&self.links[..self.count], |link| link.giver == person)
+    }
 }
 
 /// No chain has more than eight grants.
@@ -38,33 +40,48 @@ impl Plan {
     pub fn new(links: Links) -> Plan
         ensures { result.links ≡ links }
     {
-        let mut keep = [0u128; 96];
-        let mut onward = [0u128; 96];
-        for i in 0..links.count {
-            keep[i] = without(links.row[i], places_to(&links, links.taker[i]));
-            onward[i] = places_by(&links, links.taker[i]);
+        let mut steps = [Step { keep: 0, onward: 0 }; 96];
+        for (i, link) in links.links.iter().enumerate() {
+            steps[i] = Step {
+                keep: without(link.row, links.to(link.taker)),
+                onward: links.by(link.taker),
+            };
         }
-        Plan {
-            links,
-            keep,
-            onward,
-        }
+        Plan { links, steps }
     }
 
-    fn net(&self, target: u8, base: u128) -> Net
-        ensures tied { Tied self.now.links target result }
-        ensures base { result.base ≡ base }
-        ensures ready { Ready result }
+    /// The places of `base` that a place of `set` can follow.
+    fn before(&self, set: u128, base: u128) -> u128
+        ensures { (i : ℕ) → i < 96 → member result i ≡ (not (bit_and (step self.now.steps i).onward set == 0) && member base i) }
     {
-        let onward = self.onward;
-        let last = places_to(&self.links, target);
+        meet(
+            select(&self.steps, |step| meet(step.onward, set) != 0),
+            base,
+        )
+    }
+
+    /// For each number of steps below eight, the places of `base` after which the target may be so
+    /// many away over places of `base`.
+    // stays: a loop over `k`, since each layer is made from the one before it in the same array.
+    fn layers(&self, last: u128, base: u128) -> [u128; 8]
+        ensures { Layers self.now.steps last base 7 result }
+    {
+        let mut near = [meet(last, base); 8];
+        for k in 0..7usize {
+            near[k + 1] = self.before(near[k], base);
+        }
+        near
+    }
+
+    fn net(&self, target: u8, base: u128) -> Net<'_>
+        ensures plan { result.plan.now ≡ self.now }
+        ensures target { result.target ≡ target }
+        ensures base { result.base ≡ base }
+    {
+        let last = self.links.to(target);
         Net {
-            giver: self.links.giver,
-            taker: self.links.taker,
-            keep: self.keep,
-            onward,
-            near: layers(&onward, last, base),
-            count: self.links.count,
+            plan: self,
+            near: self.layers(last, base),
             target,
             last,
             base,
@@ -77,9 +94,8 @@ impl Plan {
     pub fn best(&self, owner: u8, target: u8, allowed: u128, most: usize) -> Option<Route>
         ensures { Best self.now.links owner target allowed (min most 8) result }
     {
-        let start = without(allowed, places_to(&self.links, owner));
+        let start = without(allowed, self.links.to(owner));
         let net = self.net(target, start);
-        let from = places_by(&self.links, owner);
-        shortest(&net, owner, from, start, limit(most))
+        shortest(&net, owner, self.links.by(owner), start, limit(most))
     }
 }

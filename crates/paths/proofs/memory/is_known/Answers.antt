@@ -1,11 +1,11 @@
-use Rattle.std.proofs.Common.{get_or, sym, ◌∙◌, subst}
-use Rattle.std.proofs.lemmas.Bool.{eqb-true}
-use Rattle.paths.specs.Steps.{Never}
-use Rattle.paths.proofs.Memories.{never_less}
+use Rattle.std.proofs.Common.{◌≡◌, length, rules, tests}
+use Rattle.std.proofs.lemmas.Iterator.{cases_from_any, YieldsList-from_slice}
+use Rattle.paths.proofs.Memories.{Covers, covered_never}
 use Rattle.paths.proofs.memory.is_known.Goals as goal
 
-pub returns-then-is_within : goal.returns-then-is_within
-returns-then-is_within c =
-    λ _ n k failed.
-    never_less n c.args.allowed (get_or c.args.failures.now.sets c.loop-j.j 0) c.args.at k (eqb-true _ _ (sym c.is_within.ensures ∙ c.if-is_within.true))
-    (subst (λ p. Never n (get_or c.args.failures.now.sets c.loop-j.j 0) p k) c.if-failures-j.true (failed c.loop-j.j c.loop-j-test.true))
+pub returns : goal.returns
+returns c =
+    let noted = c.args.failures.now.noted in
+    let long : length noted ≡ 32 = search rules in
+    let found = cases_from_any _ _ c.any.result (Covers c.args.allowed c.args.at) (λ _. Unit {0}) c.any.ensures.ran (YieldsList-from_slice noted cc) (λ x q h. search (rules, tests)) (λ x q h. search (rules, tests)) in
+    λ e n t k failed. covered_never n t c.args.allowed c.args.at k c.args.failures.now c.any.result _ long found e failed

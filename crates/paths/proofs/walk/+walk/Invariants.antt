@@ -1,7 +1,6 @@
-use Rattle.std.proofs.Common.{◌≡◌, ◌-◌, ◌<◌, ◌≤◌, true, length}
-use Rattle.paths.specs.Sets.{member}
-use Rattle.paths.proofs.Walks.{NoneBelow}
-use Rattle.paths.specs.Memories.{Knows}
+use Rattle.std.proofs.Common.{length}
+use Rattle.paths.proofs.Walks.{NoneBut}
+use Rattle.paths.specs.Memories.{Knows, Inside}
 use Rattle.paths.proofs.walk.+walk.Given as goal
 
 abbrev pub decreases-walk : goal.decreases-walk
@@ -9,10 +8,6 @@ decreases-walk l = length l.path.now
 
 abbrev pub invariant-loop-i : goal.invariant-loop-i
 invariant-loop-i l =
-    NoneBelow l.net l.allowed l.at (length l.path) l.i
-    × Knows l.net l.memory
-    × (l.i ≤ 128)
-    × (l.i < 128 → member l.places l.i ≡ true)
-
-abbrev pub decreases-loop-i : goal.decreases-loop-i
-decreases-loop-i l = l.net.count - l.i
+    NoneBut l.net.plan.now l.net.target l.i-iterator.rest l.allowed l.at (length l.path)
+    × Knows l.net.plan.now l.net.target l.memory
+    × Inside l.places l.i-iterator.rest

@@ -1,6 +1,6 @@
-use Rattle.std.proofs.Common.{◌≡◌, ℕ, ◌-◌, ◌<◌, ◌≤◌, length, replicate, sym, ◌∙◌, subst, arith}
+use Rattle.std.proofs.Common.{◌≡◌, ℕ, ◌-◌, ◌<◌, ◌≤◌, length, replicate, sym, subst, arith}
 use Rattle.std.proofs.lemmas.List.{length-take}
-use Rattle.paths.proofs.Memories.{fresh, knows_front}
+use Rattle.paths.proofs.Memories.{knows_front}
 use Rattle.paths.proofs.Walks.{filled}
 use Rattle.paths.proofs.walk.shortest.Goals as goal
 
@@ -17,14 +17,5 @@ returns-then-walk c =
       λ q lt s. c.loop-k.invariant q (subst (λ m. length q < m) long lt) s,
     )
 
-pub walk-requires : goal.walk-requires
-walk-requires c =
-    let low : c.loop-k.k - 0 ≤ 8 = omega (arith, c.requires.most, c.loop-k-test.true) in
-    record {
-      ready = c.requires.ready;
-      inside = c.requires.inside;
-      short = simp length-take (omega (arith, low));
-      from = c.requires.from;
-      levels = length-take (c.loop-k.k - 0) (replicate 8 (fresh c.args.net.now)) ∙ sym (length-take (c.loop-k.k - 0) (replicate {A = ℕ} 8 0));
-      knows = knows_front c.args.net.now (c.loop-k.k - 0) low;
-    }
+pub walk-requires-clause-knows : goal.walk-requires-clause-knows
+walk-requires-clause-knows c = knows_front c.args.net.now.plan.now c.args.net.now.target (c.loop-k.k - 0) (omega (arith, c.requires.most, c.loop-k-test.true))

@@ -1,11 +1,11 @@
 -- Laws of sets of places.
-use Rattle.std.proofs.Common.{◌≡◌, ℕ, zero, suc, ◌+◌, ◌-◌, ◌/◌, ◌%◌, ◌^◌, ◌<◌, ◌≤◌, Bool, true, false, not, ◌&&◌, ◌||◌, eqb, sym, refl, ap, ◌∙◌, subst, ⊎_elim, mul_comm, pow-suc, div-one, one-add, arith, below_more}
+use Rattle.std.proofs.Common.{◌≡◌, ℕ, zero, suc, ◌+◌, ◌-◌, ◌/◌, ◌%◌, ◌^◌, ◌<◌, ◌≤◌, Bool, true, false, not, ◌&&◌, ◌||◌, eqb, ltb, sym, refl, ap, ◌∙◌, subst, ⊎_elim, mul_comm, pow-suc, div-one, one-add, arith, below_more}
 use native.Mathlib.Nat.{mul-mod_left, div_self}
 use lib.Count.{count_trailing_zeros, under}
-use lib.Bits.{bit_and, bit_or, bit_xor, and_shr, or_shr, xor_shr, and_mod, or_mod, xor_mod}
-use Rattle.std.proofs.lemmas.Nat.{mod_below, pow_pos, pow-add, pow_below, shl-shr, shr_le, shr-shr, div_below, div-add-mod'}
-use Rattle.std.proofs.lemmas.Bool.{eq-eqb, ne_eqb, cases_order, cases_eq}
-use Rattle.paths.specs.Sets.{member}
+use lib.Bits.{bit_and, bit_or, bit_xor, and_self, xor_add_and, and_shr, or_shr, xor_shr, and_mod, or_mod, xor_mod}
+use Rattle.std.proofs.lemmas.Nat.{and_assoc, mod_below, pow_pos, pow-add, pow_below, shl-shr, shr_le, shr-shr, div_below, div-add-mod'}
+use Rattle.std.proofs.lemmas.Bool.{and_from, both_ways, eq-eqb, ne_eqb, lt-ltb, cases_order, cases_eq}
+use Rattle.places.specs.Sets.{member}
 
 -- what holds of the four pairs of bits holds of all
 by_bits : (P : ℕ → ℕ → Type 0) → P 0 0 → P 0 1 → P 1 0 → P 1 1 → (u v : ℕ) → u < 2 → v < 2 → P u v
@@ -63,6 +63,10 @@ member_one j i =
     ap (λ x. eqb (x % 2) 1) z ∙ sym (ne_eqb i j (λ e. omega arith))))
     (cases_order i j)
 
+and_false : (b : Bool) → (b && false) ≡ false
+and_false true = refl
+and_false false = refl
+
 or_false : (b : Bool) → (b || false) ≡ b
 or_false true = refl
 or_false false = refl
@@ -70,6 +74,9 @@ or_false false = refl
 or_true : (b : Bool) → (b || true) ≡ true
 or_true true = refl
 or_true false = refl
+
+pub with_one : (s j k : ℕ) → member (bit_or s (2 ^ j)) k ≡ (member s k || eqb k j)
+with_one s j k = member_or s (2 ^ j) k ∙ ap (λ b. member s k || b) (member_one j k)
 
 pub with_other : (s j k : ℕ) → (k ≡ j → ⊥) → member (bit_or s (2 ^ j)) k ≡ member s k
 with_other s j k ne = member_or s (2 ^ j) k ∙ ap (λ b. member s k || b) (member_one j k ∙ ne_eqb k j ne) ∙ or_false (member s k)
@@ -117,22 +124,46 @@ zeros_room (suc k) n pos h = room_case n (n % 2) (count_trailing_zeros k (n / 2)
 pub member_shr : (s i j : ℕ) → member (s / 2 ^ i) j ≡ member s (i + j)
 member_shr s i j = ap (λ z. eqb (z % 2) 1) (shr-shr s i j)
 
--- where a test f of the places below j is written into a set
-abbrev pub Marks : (ℕ → Bool) → ℕ → ℕ → Type 0
-Marks f s j = ((k : ℕ) → k < j → member s k ≡ f k) × ((k : ℕ) → j ≤ k → member s k ≡ false)
-
-pub marks_out : (f : ℕ → Bool) (s j : ℕ) → Marks f s j → f j ≡ false → Marks f s (j + 1)
-marks_out f s j h e = (below_more (λ k. member s k ≡ f k) j h.0 (h.1 j (omega arith) ∙ sym e), λ k le. h.1 k (omega arith))
-
-pub marks_in : (f : ℕ → Bool) (s j : ℕ) → Marks f s j → f j ≡ true → Marks f (bit_or s (2 ^ j)) (j + 1)
-marks_in f s j h e = (
-  below_more (λ k. member (bit_or s (2 ^ j)) k ≡ f k) j (λ k lt. with_other s j k (λ q. omega arith) ∙ h.0 k lt) (with_same s j ∙ sym e),
-  λ k le. with_other s j k (λ q. omega arith) ∙ h.1 k (omega arith),
-)
-
 pub member_high : (s k j : ℕ) → s < 2 ^ k → k ≤ j → member s j ≡ false
 member_high s k j lt le =
     let p : 2 ^ k ≤ 2 ^ j = ⊎_elim (λ e. subst (λ m. 2 ^ k ≤ 2 ^ m) e (omega arith)) (λ ne. omega (arith, pow_below k j (omega (arith, ne)))) (cases_eq k j) in
     let low : s / 2 ^ j < 1 = div_below s (2 ^ j) 1 (pow_pos j) (omega arith) in
     let z : s / 2 ^ j ≡ 0 = omega arith in
     ap (λ x. eqb (x % 2) 1) z
+
+-- where each place below i is in the set just if P holds of it and true, and none from i on
+module _ (P : ℕ → Bool → Type 0) where
+  abbrev pub Chosen : ℕ → ℕ → Type 0
+  Chosen s i = ((k : ℕ) → k < i → k < 128 → P k (member s k)) × ((k : ℕ) → i ≤ k → member s k ≡ false)
+
+  pub chosen_none : Chosen 0 0
+  chosen_none = (λ k lt. absurd (omega arith), λ k le. member_zero k)
+
+  pub chosen_out : (s i : ℕ) → Chosen s i → P i false → Chosen s (i + 1)
+  chosen_out s i h p = (
+    below_more (λ k. k < 128 → P k (member s k)) i h.0 (λ low. subst (P i) (sym (h.1 i (omega arith))) p),
+    λ k le. h.1 k (omega arith),
+  )
+
+  added_other : (s t i k : ℕ) (b : Bool) → member t k ≡ (member s k || (b && eqb k i)) → (k ≡ i → ⊥) → member t k ≡ member s k
+  added_other s t i k b e ne = e ∙ ap (λ x. member s k || (b && x)) (ne_eqb k i ne) ∙ ap (λ x. member s k || x) (and_false b) ∙ or_false (member s k)
+
+  added_same : (s t i : ℕ) → i < 128 → member t i ≡ (member s i || (ltb i 128 && eqb i i)) → member t i ≡ true
+  added_same s t i low e = e ∙ ap (λ x. member s i || (x && eqb i i)) (lt-ltb i 128 low) ∙ ap (λ x. member s i || x) (eq-eqb i i refl) ∙ or_true (member s i)
+
+  pub chosen_in : (s t i : ℕ) → Chosen s i → ((k : ℕ) → member t k ≡ (member s k || (ltb i 128 && eqb k i))) → P i true → Chosen t (i + 1)
+  chosen_in s t i h e p = (
+    below_more (λ k. k < 128 → P k (member t k)) i
+        (λ k lt low. subst (P k) (sym (added_other s t i k (ltb i 128) (e k) (λ q. omega arith))) (h.0 k lt low))
+        (λ low. subst (P i) (sym (added_same s t i low (e i))) p),
+    λ k le. added_other s t i k (ltb i 128) (e k) (λ q. omega arith) ∙ h.1 k (omega arith),
+  )
+
+-- a set without a place that it had is smaller, as a number
+pub smaller : (s p i : ℕ) → member s i ≡ true → member p i ≡ true → bit_xor s (bit_and s p) < s
+smaller s p i here there =
+    let m = bit_and s p in
+    let both : member m i ≡ true = member_and s p i ∙ and_from _ _ here there in
+    let some : m ≡ 0 → ⊥ = λ e. both_ways (member 0 i) (member_zero i) (sym (ap (λ z. member z i) e) ∙ both) in
+    let again : bit_and s m ≡ m = sym (and_assoc p s s) ∙ ap (λ z. bit_and z p) (and_self s) in
+    omega (arith, xor_add_and s m, again, some)
