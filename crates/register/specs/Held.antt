@@ -1,8 +1,9 @@
 -- What a register holds: the grants on record, in the order of their numbers.
-use Rattle.std.specs.Prelude.{◌≡◌, ℕ, suc, ◌/◌, ◌%◌, ◌^◌, ◌<◌, Bool, cond, List, [], ◌∷◌, ◌++◌, length, take, Ok, Result, ◌==◌}
+use Rattle.std.specs.Prelude.{◌≡◌, ℕ, suc, ◌<◌, Bool, cond, List, [], ◌∷◌, ◌++◌, length, take, Ok, Result}
 use Rattle.numbered.specs.declared.NotAdded.{NotAdded}
 use Rattle.numbered.specs.Rows.{AllBelow}
 use Rattle.grants.specs.declared.Grant.{Grant}
+use Rattle.places.specs.Sets.{member}
 use Rattle.register.specs.declared.table.Register.{Register}
 
 abbrev pub held : Register → List Grant
@@ -12,21 +13,13 @@ held r = take r.count r.rows
 abbrev pub numbers : Grant → ℕ
 numbers g = g.number
 
--- a set of places, one bit for each, has place i
-abbrev pub has_place : ℕ → ℕ → Bool
-has_place places i = (places / 2 ^ i) % 2 == 1
-
 -- of rows that stand from place i on, those whose place is in the set, in their order
 abbrev pub chosen_from : ℕ → ℕ → List Grant → List Grant
 chosen_from places i [] = []
-chosen_from places i (g ∷ gs) = cond (has_place places i) (g ∷ chosen_from places (suc i) gs) (chosen_from places (suc i) gs)
+chosen_from places i (g ∷ gs) = cond (member places i) (g ∷ chosen_from places (suc i) gs) (chosen_from places (suc i) gs)
 
 abbrev pub chosen : ℕ → List Grant → List Grant
 chosen places gs = chosen_from places 0 gs
-
--- the same rows and the same count
-abbrev pub Unmoved : Register → Register → Type 0
-Unmoved before after = (after.rows ≡ before.rows) × (after.count ≡ before.count)
 
 -- a grant whose number is above all others is added at the end, where fewer than 96 are held
 abbrev pub Appends : Grant → List Grant → Result (Unit {0}) NotAdded → List Grant → Type 0

@@ -4,10 +4,11 @@
 ghost use Rattle.std.specs.Prelude.{◌≡◌, ◌<◌, ◌≤◌, [], length, take, IfSome, OnErr};
 ghost use Rattle.numbered.specs.Rows.{place_of, row_of, without};
 ghost use Rattle.numbered.specs.Answers.{insertion, after_insertion, KeptIfNone};
-ghost use Rattle.register.specs.Held.{held, numbers, has_place, chosen, Unmoved, Appends};
+ghost use Rattle.register.specs.Held.{held, numbers, chosen, Appends};
 
 use grants::Grant;
 use numbered::NotAdded;
+use places::has;
 
 pub mod table;
 
@@ -43,26 +44,8 @@ impl Register {
     pub fn get(&self, n: u32) -> Option<Grant>
         ensures { result ≡ row_of numbers n (held self.now) }
     {
-        match self.find(n) {
-            Some(i) => Some(self.rows[i]),
-            None => None,
-        }
-    }
-
-    fn add(&mut self, grant: Grant) -> Result<(), NotAdded>
-        ensures is { result ≡ insertion numbers grant 96 (held self.old) }
-        ensures after { held self.new ≡ after_insertion numbers grant (held self.old) result }
-        ensures refused { OnErr result (Unmoved self.old self.new) }
-    {
-        numbered::insert(&mut self.rows, &mut self.count, grant)
-    }
-
-    fn take_out(&mut self, n: u32) -> Option<Grant>
-        ensures is { result ≡ row_of numbers n (held self.old) }
-        ensures after { held self.new ≡ without numbers n (held self.old) }
-        ensures refused { KeptIfNone result (Unmoved self.old self.new) }
-    {
-        numbered::remove(&mut self.rows, &mut self.count, n)
+        let i = self.find(n)?;
+        Some(self.rows[i])
     }
 
     /// Adds a grant in the order of the numbers; one whose number is above all others comes last.
@@ -72,7 +55,7 @@ impl Register {
         ensures refused { OnErr result (self.new ≡ self.old) }
         ensures law { Appends grant (held self.old) result (held self.new) }
     {
-        self.add(grant)
+        numbered::insert(&mut self.rows, &mut self.count, grant)
     }
 
     /// Takes out the grant numbered `n`, and answers it; the later ones move up.
@@ -81,7 +64,7 @@ impl Register {
         ensures after { held self.new ≡ without numbers n (held self.old) }
         ensures refused { KeptIfNone result (self.new ≡ self.old) }
     {
-        self.take_out(n)
+        numbered::remove(&mut self.rows, &mut self.count, n)
     }
 
     /// Keeps the grants whose place is in the set `places`, one bit for each, and takes out the others.
@@ -93,14 +76,6 @@ impl Register {
     }
 }
 
-/// Whether the set `places` has place `i`.
-fn has_place(places: u128, i: usize) -> bool
-    requires { i < 128 }
-    ensures { result ≡ has_place places i }
-{
-    (places >> i) % 2 == 1
-}
-
 /// Brings those of the first `count` rows whose place is in the set to the front, in their order,
 /// and answers how many they are.
 fn choose(rows: &mut [Grant], count: usize, places: u128) -> usize
@@ -110,8 +85,9 @@ fn choose(rows: &mut [Grant], count: usize, places: u128) -> usize
     ensures within { result ≤ count }
 {
     let mut next = 0;
+    // stays: rows move within the slice that is gone over, which an iterator would hold
     for i in 0..count {
-        if has_place(places, i) {
+        if has(places, i) {
             rows[next] = rows[i];
             next += 1;
         }

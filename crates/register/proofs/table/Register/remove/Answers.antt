@@ -5,7 +5,7 @@ use Rattle.register.proofs.table.Register.remove.Goals as goal
 pub returns : goal.returns
 returns c =
     record {
-      is = c.take_out.ensures.is;
-      after = c.take_out.ensures.after;
-      refused = kept_if_none c.take_out.result (λ k. same _ _ k.0 k.1) c.take_out.ensures.refused;
+      is = c.remove.ensures.is;
+      after = c.remove.ensures.after;
+      refused = kept_if_none c.remove.result (λ k. same _ _ k.0 k.1) c.remove.ensures.refused;
     }
