@@ -3,6 +3,7 @@ use crate::samples::{
     check_chain, check_chainless, check_given, check_refused, fitted, sheet, terms, untold,
 };
 use crate::visits::look;
+use faults::Refusal;
 use grants::Mode;
 use std::test::Fail;
 
@@ -23,7 +24,7 @@ fn eight_in_a_row_and_the_ninth_person_grants_no_more(rt: HostRuntime) -> Result
     check_refused(
         &rt,
         cabinet.issue(9, 0, 10, &terms(0, 0, Mode::Resting)),
-        11,
+        Refusal::NoChain,
         0,
     )?;
     check_given(&rt, &mut cabinet, 8, 10, Mode::Expiring, 9);
@@ -69,15 +70,20 @@ fn an_amendment_has_a_new_number_and_the_old_hook_and_grantee(rt: HostRuntime) -
     assert_eq!(rt; cabinet.issue(1, 5, 2, &free), Ok(1));
     assert_eq!(rt; cabinet.issue(1, 5, 3, &free), Ok(2));
     assert_eq!(rt; cabinet.amend(1, 1, &free), Ok(3));
-    check_refused(&rt, cabinet.stands(1), 7, 1)?;
+    check_refused(&rt, cabinet.stands(1), Refusal::NoSuchGrant, 1)?;
     assert_eq!(rt; cabinet.stands(3), Ok(true));
     check_chain(&rt, &mut cabinet, 2, 5, 1, &[3, 0, 0, 0, 0, 0, 0, 0])?;
     check_chain(&rt, &mut cabinet, 3, 5, 1, &[2, 0, 0, 0, 0, 0, 0, 0])?;
     check_chainless(&rt, &mut cabinet, 2)?;
-    check_refused(&rt, cabinet.amend(1, 1, &free), 7, 1)?;
+    check_refused(&rt, cabinet.amend(1, 1, &free), Refusal::NoSuchGrant, 1)?;
     assert_eq!(rt; cabinet.amend(1, 3, &terms(1, 0, Mode::Expiring)), Ok(4));
     let mut list = [0; 8];
-    check_refused(&rt, look(&mut cabinet, 2, 5, &untold(), &mut list), 11, 0)?;
+    check_refused(
+        &rt,
+        look(&mut cabinet, 2, 5, &untold(), &mut list),
+        Refusal::NoChain,
+        0,
+    )?;
     // it stands all the same: its execute condition is asked of draws
     assert_eq!(rt; cabinet.stands(4), Ok(true));
     Ok(())
@@ -90,7 +96,7 @@ fn an_amendment_ends_what_it_no_longer_justifies(rt: HostRuntime) -> Result<(), 
     check_given(&rt, &mut cabinet, 2, 3, Mode::Expiring, 2);
     check_given(&rt, &mut cabinet, 2, 4, Mode::Resting, 3);
     assert_eq!(rt; cabinet.amend(1, 1, &terms(0, 1, Mode::Expiring)), Ok(4));
-    check_refused(&rt, cabinet.stands(2), 7, 2)?;
+    check_refused(&rt, cabinet.stands(2), Refusal::NoSuchGrant, 2)?;
     assert_eq!(rt; cabinet.stands(3), Ok(false));
     check_chainless(&rt, &mut cabinet, 3)?;
     check_chainless(&rt, &mut cabinet, 4)?;
@@ -111,11 +117,11 @@ fn a_withdrawal_counts_everything_behind_the_grant(rt: HostRuntime) -> Result<()
     check_given(&rt, &mut cabinet, 1, 6, Mode::Expiring, 5);
     assert_eq!(rt; cabinet.withdraw(1, 5), Ok(0));
     assert_eq!(rt; cabinet.withdraw(1, 1), Ok(3));
-    check_refused(&rt, cabinet.stands(2), 7, 2)?;
+    check_refused(&rt, cabinet.stands(2), Refusal::NoSuchGrant, 2)?;
     assert_eq!(rt; cabinet.stands(3), Ok(false));
     // a grant that rests is withdrawn like any other
     assert_eq!(rt; cabinet.withdraw(3, 3), Ok(0));
-    check_refused(&rt, cabinet.stands(3), 7, 3)
+    check_refused(&rt, cabinet.stands(3), Refusal::NoSuchGrant, 3)
 }
 
 #[test]
@@ -140,7 +146,7 @@ fn expiring_grants_leave_and_resting_ones_return(rt: HostRuntime) -> Result<(), 
     assert_eq!(rt; cabinet.stands(2), Ok(true));
     assert_eq!(rt; cabinet.withdraw(1, 1), Ok(2));
     assert_eq!(rt; cabinet.stands(2), Ok(false));
-    check_refused(&rt, cabinet.stands(3), 7, 3)?;
+    check_refused(&rt, cabinet.stands(3), Refusal::NoSuchGrant, 3)?;
     check_given(&rt, &mut cabinet, 1, 2, Mode::Expiring, 4);
     assert_eq!(rt; cabinet.stands(2), Ok(true));
     check_chain(&rt, &mut cabinet, 3, 0, 2, &[4, 2, 0, 0, 0, 0, 0, 0])?;

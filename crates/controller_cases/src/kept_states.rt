@@ -3,7 +3,7 @@ use crate::samples::{check_refused, fitted, sheet, terms, told, untold};
 use crate::visits::look;
 use conditions::language::Language;
 use controller::cabinet::Cabinet;
-use faults::Fault;
+use faults::{Fault, Refusal};
 use grants::Mode;
 use grants::terms::Terms;
 use states::report::Report;
@@ -42,11 +42,16 @@ fn a_grant_condition_knows_what_is_kept(rt: HostRuntime) -> Result<(), Fail> {
         cabinet.issue(1, 0, 2, &terms(0, HOURS, Mode::Expiring)),
         Ok(1)
     );
-    check_refused(&rt, passed_on(&mut cabinet, 3, untold()), 11, 0)?;
+    check_refused(
+        &rt,
+        passed_on(&mut cabinet, 3, untold()),
+        Refusal::NoChain,
+        0,
+    )?;
     check_refused(
         &rt,
         passed_on(&mut cabinet, 3, told(Some(479), None)),
-        11,
+        Refusal::NoChain,
         0,
     )?;
     assert_eq!(rt; passed_on(&mut cabinet, 3, told(Some(480), None)), Ok(2));
@@ -57,7 +62,7 @@ fn a_grant_condition_knows_what_is_kept(rt: HostRuntime) -> Result<(), Fail> {
     check_refused(
         &rt,
         passed_on(&mut cabinet, 3, told(Some(1081), None)),
-        11,
+        Refusal::NoChain,
         0,
     )
 }
@@ -72,7 +77,7 @@ fn what_is_not_kept_is_unknown_to_a_grant_condition(rt: HostRuntime) -> Result<(
     check_refused(
         &rt,
         passed_on(&mut cabinet, 3, told(Some(600), Some(0))),
-        11,
+        Refusal::NoChain,
         0,
     )?;
     let mut forgetful = fitted(sheet(), 0);
@@ -83,7 +88,7 @@ fn what_is_not_kept_is_unknown_to_a_grant_condition(rt: HostRuntime) -> Result<(
     check_refused(
         &rt,
         passed_on(&mut forgetful, 3, told(Some(600), Some(0))),
-        11,
+        Refusal::NoChain,
         0,
     )
 }
@@ -102,8 +107,18 @@ fn an_execute_condition_knows_what_is_reported(rt: HostRuntime) -> Result<(), Fa
     let sunday = told(None, Some(6));
     assert_eq!(rt; look(&mut cabinet, 2, 0, &monday, &mut list), Ok((0, 2, 1)));
     assert_eq!(rt; look(&mut cabinet, 3, 0, &monday, &mut list), Ok((0, 3, 2)));
-    check_refused(&rt, look(&mut cabinet, 3, 0, &sunday, &mut list), 11, 0)?;
-    check_refused(&rt, look(&mut cabinet, 3, 0, &untold(), &mut list), 11, 0)
+    check_refused(
+        &rt,
+        look(&mut cabinet, 3, 0, &sunday, &mut list),
+        Refusal::NoChain,
+        0,
+    )?;
+    check_refused(
+        &rt,
+        look(&mut cabinet, 3, 0, &untold(), &mut list),
+        Refusal::NoChain,
+        0,
+    )
 }
 
 #[test]
@@ -113,13 +128,23 @@ fn the_receiver_is_known_to_grants_and_not_to_draws(rt: HostRuntime) -> Result<(
         cabinet.issue(1, 0, 2, &terms(0, NOT_TO_NINE, Mode::Expiring)),
         Ok(1)
     );
-    check_refused(&rt, passed_on(&mut cabinet, 9, untold()), 11, 0)?;
+    check_refused(
+        &rt,
+        passed_on(&mut cabinet, 9, untold()),
+        Refusal::NoChain,
+        0,
+    )?;
     assert_eq!(rt; passed_on(&mut cabinet, 8, untold()), Ok(2));
     assert_eq!(rt;
         cabinet.issue(1, 1, 2, &terms(NOT_TO_NINE, 0, Mode::Expiring)),
         Ok(3)
     );
-    check_refused(&rt, look(&mut cabinet, 2, 1, &untold(), &mut [0; 8]), 11, 0)
+    check_refused(
+        &rt,
+        look(&mut cabinet, 2, 1, &untold(), &mut [0; 8]),
+        Refusal::NoChain,
+        0,
+    )
 }
 
 #[test]
@@ -131,7 +156,7 @@ fn a_condition_of_a_grant_is_asked_of_all_that_follow(rt: HostRuntime) -> Result
         Ok(1)
     );
     assert_eq!(rt; passed_on(&mut cabinet, 3, told(Some(600), None)), Ok(2));
-    check_refused(&rt, cabinet.issue(3, 0, 4, &free), 11, 0)?;
+    check_refused(&rt, cabinet.issue(3, 0, 4, &free), Refusal::NoChain, 0)?;
     let noon = Terms {
         report: told(Some(720), None),
         ..free

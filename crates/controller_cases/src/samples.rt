@@ -2,7 +2,7 @@
 use crate::visits::look;
 use conditions::language::Language;
 use controller::cabinet::Cabinet;
-use faults::{Fault, Layer};
+use faults::{Fault, Layer, Refusal};
 use grants::Mode;
 use grants::terms::Terms;
 use sheets::row::Row;
@@ -16,10 +16,7 @@ pub(crate) fn told(time: Option<u16>, day: Option<u16>) -> Report {
     Report {
         time,
         day,
-        groups: None,
-        path: None,
-        level: None,
-        status: None,
+        ..Report::default()
     }
 }
 
@@ -99,34 +96,25 @@ pub(crate) fn check_given<L: Language>(
     );
 }
 
-/// A refusal by the cabinet, of this number at this place.
+/// A refusal by the cabinet, for this reason at this place.
 pub(crate) fn check_refused<T: Drop>(
     rt: &impl Abort,
     answer: Result<T, Fault>,
-    number: u8,
+    refusal: Refusal,
     place: usize,
 ) -> Result<(), Fail> {
+    let refused = Fault {
+        refusal,
+        place,
+        layer: Layer::Cabinet,
+    };
     match answer {
         Ok(_) => Err(Fail::new("it is accepted")),
         Err(fault) => {
-            assert_eq!(rt; fault.refusal.number(), number);
-            assert_eq!(rt; fault.place, place);
-            assert_eq!(rt; fault.layer, Layer::Cabinet);
+            assert_eq!(rt; fault, refused);
             Ok(())
         }
     }
-}
-
-/// Two lists of eight numbers are the same.
-pub(crate) fn check_list(
-    rt: &impl Abort,
-    list: &[u32; 8],
-    expected: &[u32; 8],
-) -> Result<(), Fail> {
-    for k in 0..8 {
-        assert_eq!(rt; list[k], expected[k]);
-    }
-    Ok(())
 }
 
 /// A draw from a hook, whose slip is left at once, names the chain of so many grants.
@@ -143,7 +131,8 @@ pub(crate) fn check_chain<L: Language>(
         look(cabinet, caller, hook, &untold(), &mut list),
         Ok((hook, caller, length))
     );
-    check_list(rt, &list, expected)
+    assert_eq!(rt; list, *expected);
+    Ok(())
 }
 
 /// A draw from hook 0 is refused for want of a chain.
@@ -153,5 +142,10 @@ pub(crate) fn check_chainless<L: Language>(
     caller: u8,
 ) -> Result<(), Fail> {
     let mut list = [9; 8];
-    check_refused(rt, look(cabinet, caller, 0, &untold(), &mut list), 11, 0)
+    check_refused(
+        rt,
+        look(cabinet, caller, 0, &untold(), &mut list),
+        Refusal::NoChain,
+        0,
+    )
 }

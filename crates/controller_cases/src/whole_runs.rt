@@ -1,5 +1,5 @@
 //! Lists of calls on a new cabinet, over a book, a sheet and a pile of layers.
-use crate::samples::{check_list, check_refused, fitted, owners, sheet, terms, told, untold};
+use crate::samples::{check_refused, fitted, owners, sheet, terms, told, untold};
 use crate::visits::{look, take_away};
 use books::book::Book;
 use books::open::office_hours;
@@ -59,67 +59,34 @@ fn give_back<'a>(caller: u8, hook: u8) -> Call<'a> {
     Call::Return { caller, hook }
 }
 
-fn refused(refusal: Refusal, place: usize) -> Answer {
-    Answer::Refused(Fault {
+/// A call's answer, or its refusal.
+type Told = Result<Answer, Fault>;
+
+const DONE: Told = Ok(Answer::Done);
+
+fn number(number: u32) -> Told {
+    Ok(Answer::Number(number))
+}
+
+fn orphaned(count: u32) -> Told {
+    Ok(Answer::Orphaned(count))
+}
+
+fn refused(refusal: Refusal, place: usize) -> Told {
+    Err(Fault {
         refusal,
         place,
         layer: Layer::Cabinet,
     })
 }
 
-fn slip(hook: u8, person: u8, length: u8, numbers: [u32; 8]) -> Answer {
-    Answer::Slip {
+fn slip(hook: u8, person: u8, length: u8, numbers: [u32; 8]) -> Told {
+    Ok(Answer::Slip {
         hook,
         person,
         length,
         numbers,
-    }
-}
-
-fn check_answer(rt: &impl Abort, answer: &Answer, expected: &Answer) -> Result<(), Fail> {
-    match (*answer, *expected) {
-        (Answer::Done, Answer::Done) => Ok(()),
-        (Answer::Refused(a), Answer::Refused(b)) => {
-            assert_eq!(rt; a, b);
-            Ok(())
-        },
-        (Answer::Number(a), Answer::Number(b)) => {
-            assert_eq!(rt; a, b);
-            Ok(())
-        },
-        (Answer::Orphaned(a), Answer::Orphaned(b)) => {
-            assert_eq!(rt; a, b);
-            Ok(())
-        },
-        (
-            Answer::Slip {
-                hook: a,
-                person: p,
-                length: m,
-                numbers: x,
-            },
-            Answer::Slip {
-                hook: b,
-                person: q,
-                length: n,
-                numbers: y,
-            },
-        ) => {
-            assert_eq!(rt; a, b);
-            assert_eq!(rt; p, q);
-            assert_eq!(rt; m, n);
-            check_list(rt, &x, &y)
-        }
-        _ => Err(Fail::new("another kind of answer")),
-    }
-}
-
-fn check_answers(rt: &impl Abort, answers: &[Answer], expected: &[Answer]) -> Result<(), Fail> {
-    assert_eq!(rt; answers.len(), expected.len());
-    for (answer, told) in answers.iter().zip(expected) {
-        check_answer(rt, answer, told)?;
-    }
-    Ok(())
+    })
 }
 
 #[test]
@@ -141,28 +108,28 @@ fn slips_of_any_origin(rt: HostRuntime) -> Result<(), Fail> {
         take(0, 1),
         leave(40, 1),
     ];
-    let mut answers = [Answer::Done; 14];
+    let mut answers = [DONE; 14];
     let _ = replay(sheet(), &calls, &mut answers);
-    check_answers(
-        &rt,
-        &answers,
-        &[
-            Answer::Done,
+    assert_eq!(rt;
+        answers,
+        [
+            DONE,
             slip(0, 1, 0, [0; 8]),
             refused(Refusal::KeyNotIn, 0),
             refused(Refusal::KeyNotOut, 0),
             refused(Refusal::NotPromised, 0),
             refused(Refusal::NotPromised, 0),
             refused(Refusal::NotPromised, 1),
-            Answer::Done,
+            DONE,
             refused(Refusal::NotPromised, 0),
-            Answer::Done,
+            DONE,
             slip(0, 1, 0, [0; 8]),
-            Answer::Done,
+            DONE,
             refused(Refusal::NotPromised, 0),
             refused(Refusal::NotPromised, 40),
-        ],
-    )
+        ]
+    );
+    Ok(())
 }
 
 #[test]
@@ -174,14 +141,19 @@ fn calls_past_the_last_place_are_not_performed(rt: HostRuntime) -> Result<(), Fa
         withdraw(1, 1),
         issue(1, 0, 3, terms(0, 0, Mode::Expiring)),
     ];
-    let mut answers = [Answer::Done; 2];
+    let mut answers = [DONE; 2];
     let cabinet = replay(sheet(), &calls, &mut answers);
-    check_answers(&rt, &answers, &[Answer::Done, Answer::Number(1)])?;
+    assert_eq!(rt; answers, [DONE, number(1)]);
     assert_eq!(rt; cabinet.stands(1), Ok(true));
-    check_refused(&rt, cabinet.stands(2), 7, 2)?;
+    check_refused(&rt, cabinet.stands(2), Refusal::NoSuchGrant, 2)?;
     // without a place it stays new
     let mut unfitted = replay(sheet(), &calls, &mut []);
-    check_refused(&rt, look(&mut unfitted, 1, 0, &untold(), &mut [0; 8]), 3, 0)
+    check_refused(
+        &rt,
+        look(&mut unfitted, 1, 0, &untold(), &mut [0; 8]),
+        Refusal::NoSuchHook,
+        0,
+    )
 }
 
 #[test]
@@ -194,22 +166,21 @@ fn places_past_the_last_call_are_untouched(rt: HostRuntime) -> Result<(), Fail> 
         amend(1, 1, terms(0, 1, Mode::Expiring)),
         withdraw(1, 3),
     ];
-    let mut answers = [Answer::Number(77); 7];
+    let mut answers = [number(77); 7];
     let cabinet = replay(sheet(), &calls, &mut answers);
-    check_answers(
-        &rt,
-        &answers,
-        &[
-            Answer::Done,
-            Answer::Number(1),
-            Answer::Number(2),
-            Answer::Number(3),
-            Answer::Orphaned(0),
-            Answer::Number(77),
-            Answer::Number(77),
-        ],
-    )?;
-    check_refused(&rt, cabinet.stands(2), 7, 2)
+    assert_eq!(rt;
+        answers,
+        [
+            DONE,
+            number(1),
+            number(2),
+            number(3),
+            orphaned(0),
+            number(77),
+            number(77),
+        ]
+    );
+    check_refused(&rt, cabinet.stands(2), Refusal::NoSuchGrant, 2)
 }
 
 /// A slip of another person, and one of the same, at a cabinet whose key is promised to person 1.
@@ -217,11 +188,16 @@ fn places_past_the_last_call_are_untouched(rt: HostRuntime) -> Result<(), Fail> 
 fn a_slip_of_another_person_comes_back(rt: HostRuntime) -> Result<(), Fail> {
     let owners = owners();
     let calls = [fit(&owners, 0), draw(1, 0, untold())];
-    let mut away = replay(sheet(), &calls, &mut [Answer::Done; 2]);
+    let mut away = replay(sheet(), &calls, &mut [DONE; 2]);
     let mut home = fitted(sheet(), 0);
     let free = terms(0, 0, Mode::Expiring);
     assert_eq!(rt; home.issue(1, 0, 2, &free), Ok(1));
-    check_refused(&rt, take_away(&mut home, &mut away, 2, 0, &untold()), 14, 0)?;
+    check_refused(
+        &rt,
+        take_away(&mut home, &mut away, 2, 0, &untold()),
+        Refusal::NotPromised,
+        0,
+    )?;
     assert_eq!(rt;
         look(&mut home, 2, 0, &untold(), &mut [0; 8]),
         Ok((0, 2, 1))
@@ -266,25 +242,25 @@ fn check_day<L: Language + Drop>(rt: &impl Abort, language: L, hours: u16) -> Re
         withdraw(1, 1),
         draw(3, 0, noon),
     ];
-    let mut answers = [Answer::Done; 11];
+    let mut answers = [DONE; 11];
     let _ = replay(language, &calls, &mut answers);
-    check_answers(
-        rt,
-        &answers,
-        &[
-            Answer::Done,
-            Answer::Number(1),
+    assert_eq!(rt;
+        answers,
+        [
+            DONE,
+            number(1),
             refused(Refusal::NoChain, 0),
             refused(Refusal::NoChain, 0),
-            Answer::Number(2),
+            number(2),
             refused(Refusal::NoChain, 0),
             slip(0, 3, 2, [1, 2, 0, 0, 0, 0, 0, 0]),
-            Answer::Done,
-            Answer::Done,
-            Answer::Orphaned(1),
+            DONE,
+            DONE,
+            orphaned(1),
             refused(Refusal::NoChain, 0),
-        ],
-    )
+        ]
+    );
+    Ok(())
 }
 
 #[test]
@@ -336,22 +312,21 @@ fn a_hidden_variable_is_unknown_to_a_draw(rt: HostRuntime) -> Result<(), Fail> {
         issue(1, 0, 2, terms(6, 0, Mode::Expiring)),
         draw(2, 0, monday),
     ];
-    let mut answers = [Answer::Done; 4];
+    let mut answers = [DONE; 4];
     let joined = Joined {
         first: Book::open(&hours),
         second: sheet(),
     };
     let _ = replay(&joined, &calls, &mut answers);
-    check_answers(
-        &rt,
-        &answers,
-        &[
-            Answer::Done,
+    assert_eq!(rt;
+        answers,
+        [
+            DONE,
             refused(Refusal::NoSuchCondition, 5),
-            Answer::Number(1),
+            number(1),
             slip(0, 2, 1, [1, 0, 0, 0, 0, 0, 0, 0]),
-        ],
-    )?;
+        ]
+    );
     let doubted = Distrust {
         below: &joined,
         hidden: 0b1000,

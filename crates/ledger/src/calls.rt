@@ -15,6 +15,7 @@ use crate::sweeps::{orphans, staying};
 use call_checks::{
     check_chain, check_parties, check_room, check_terms, check_visit, check_withdraw,
 };
+use chains::chain::Draw;
 use conditions::language::Language;
 use faults::{Fault, Refusal};
 use grants::Grant;
@@ -268,9 +269,13 @@ impl Ledger {
     {
         let owner = self.owner(hook);
         check_visit(caller, hook, owner, report)?;
-        let state = report.state(caller, None);
-        let rows = self.grants.rows();
-        chain_for(language, rows, hook, owner, caller, &state).ok_or(Refusal::NoChain.at(0))
+        let draw = Draw {
+            hook,
+            owner,
+            person: caller,
+            state: report.state(caller, None),
+        };
+        chain_for(language, self.grants.rows(), &draw).ok_or(Refusal::NoChain.at(0))
     }
 
     /// The checks of a return, all but the last, which asks where the key is.

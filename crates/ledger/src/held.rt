@@ -9,6 +9,7 @@ use register::table::Register;
 /// grants on record. No grant has a number above the last one, and at most 1,000,000 are given.
 #[derive(Drop)]
 pub struct Ledger {
+    // stays beside the owners: before the fitting they are 0, which is no hook, and each call reads them alike
     pub(crate) fitted: bool,
     pub(crate) owners: [u8; 32],
     pub(crate) kept: u8,

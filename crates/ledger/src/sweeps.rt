@@ -1,36 +1,18 @@
 //! What an ended grant takes with it: the places of the grants that stay, and the count of orphans.
 ghost use Rattle.std.specs.Prelude.{◌≡◌, ℕ, ◌<◌, ◌≤◌, length};
-ghost use Rattle.paths.specs.Sets.{member};
+ghost use Rattle.places.specs.Sets.{member};
 ghost use Rattle.plain.specs.Record.{is_resting};
 ghost use Rattle.search.specs.Records.{at};
 ghost use Rattle.ledger.specs.Sweeps.{stays_at, place_before, is_orphan, orphans_from};
 
 use grants::{Grant, Mode};
-
-/// Whether place `i` is in the set.
-fn has(set: u128, i: usize) -> bool
-    requires { i < 128 }
-    ensures { result ≡ member set i }
-{
-    (set >> i) % 2 == 1
-}
+use places::{has, join, select};
 
 /// Whether a grant of this mode rests where it does not stand.
 fn is_resting(mode: Mode) -> bool
     ensures { result ≡ is_resting mode }
 {
-    match mode {
-        Mode::Expiring => false,
-        Mode::Resting => true,
-    }
-}
-
-/// Whether the grant at place `i` stays.
-fn is_staying(grant: &Grant, standing: u128, i: usize) -> bool
-    requires { i < 128 }
-    ensures { result ≡ stays_at standing i grant.now }
-{
-    is_resting(grant.mode) || has(standing, i)
+    matches!(mode, Mode::Resting)
 }
 
 /// The places of the grants that stay where just those of `standing` stand.
@@ -38,13 +20,7 @@ pub(crate) fn staying(grants: &[Grant], standing: u128) -> u128
     requires { length grants.now ≤ 96 }
     ensures { (i : ℕ) → i < length grants.now → member result i ≡ stays_at standing i (at grants.now i) }
 {
-    let mut set = 0u128;
-    for (i, grant) in grants.iter().enumerate() {
-        if is_staying(grant, standing, i) {
-            set = set | (1u128 << i);
-        }
-    }
-    set
+    join(select(grants, |grant| is_resting(grant.mode)), standing)
 }
 
 /// The place that place `i` had before the row at `gone` was taken out.

@@ -105,8 +105,8 @@ fn is_no_owner(number: u8) -> bool
 fn check_owners(owners: &[u8]) -> Result<(), Fault>
     ensures { result ≡ passed (owners_from 0 owners.now) }
 {
-    for i in 0..owners.len() {
-        if is_no_owner(owners[i]) {
+    for (i, owner) in owners.iter().enumerate() {
+        if is_no_owner(*owner) {
             return Err(Refusal::FittingIllFormed.at(i));
         }
     }
