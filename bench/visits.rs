@@ -11,51 +11,99 @@ const PLACES: usize = 96;
 /// How many failed searches are remembered for each number of steps left.
 const KEPT: usize = 32;
 
+#[derive(Clone, Copy)]
+struct Link {
+    giver: u8,
+    taker: u8,
+    row: u128,
+}
+
 #[derive(Clone)]
 struct Links {
-    giver: [u8; PLACES],
-    taker: [u8; PLACES],
-    row: [u128; PLACES],
+    links: [Link; PLACES],
     count: usize,
 }
 
 #[derive(Clone, Copy)]
+struct Failure {
+    person: u8,
+    allowed: u128,
+}
+
+#[derive(Clone, Copy)]
 struct Failures {
-    people: [u8; KEPT],
-    sets: [u128; KEPT],
+    noted: [Failure; KEPT],
     next: usize,
 }
 
+const FRESH: Failures = Failures { noted: [Failure { person: 0, allowed: 0 }; KEPT], next: 0 };
+
+#[derive(Clone, Copy)]
+struct Step {
+    keep: u128,
+    onward: u128,
+}
+
+struct Plan {
+    links: Links,
+    steps: [Step; PLACES],
+}
+
 struct Net<'a> {
-    links: &'a Links,
-    keep: [u128; PLACES],
-    onward: [u128; PLACES],
+    plan: &'a Plan,
     near: [u128; 8],
     target: u8,
     last: u128,
     visits: u64,
 }
 
-fn places_of(people: &[u8], person: u8) -> u128 {
-    people.iter().enumerate().filter(|(_, p)| **p == person).fold(0, |s, (i, _)| s | 1 << i)
+fn select<T>(items: &[T], test: impl Fn(&T) -> bool) -> u128 {
+    items.iter().enumerate().filter(|(_, item)| test(item)).fold(0, |s, (i, _)| s | 1 << i)
 }
 
-impl<'a> Net<'a> {
-    fn new(links: &'a Links, target: u8, base: u128) -> Net<'a> {
-        let mut keep = [0; PLACES];
-        let mut onward = [0; PLACES];
-        for i in 0..links.count {
-            keep[i] = links.row[i] & !places_of(&links.taker, links.taker[i]);
-            onward[i] = places_of(&links.giver, links.taker[i]);
+/// The places of a set, by rising number.
+fn places(mut set: u128) -> impl Iterator<Item = usize> {
+    std::iter::from_fn(move || {
+        if set == 0 {
+            return None;
         }
-        let last = places_of(&links.taker, target);
-        let mut near = [last & base; 8];
-        for k in 0..7 {
-            near[k + 1] = base & (0..PLACES).filter(|i| onward[*i] & near[k] != 0).fold(0, |s, i| s | 1 << i);
-        }
-        Net { links, keep, onward, near, target, last, visits: 0 }
+        let i = set.trailing_zeros() as usize;
+        set &= set - 1;
+        Some(i)
+    })
+}
+
+impl Links {
+    fn to(&self, person: u8) -> u128 {
+        select(&self.links[..self.count], |link| link.taker == person)
     }
 
+    fn by(&self, person: u8) -> u128 {
+        select(&self.links[..self.count], |link| link.giver == person)
+    }
+}
+
+impl Plan {
+    fn new(links: &Links) -> Plan {
+        let step = |link: Link| Step { keep: link.row & !links.to(link.taker), onward: links.by(link.taker) };
+        Plan { links: links.clone(), steps: links.links.map(step) }
+    }
+
+    fn layers(&self, last: u128, base: u128) -> [u128; 8] {
+        let mut near = [last & base; 8];
+        for k in 0..7 {
+            near[k + 1] = base & select(&self.steps, |step| step.onward & near[k] != 0);
+        }
+        near
+    }
+
+    fn net(&self, target: u8, base: u128) -> Net<'_> {
+        let last = self.links.to(target);
+        Net { plan: self, near: self.layers(last, base), target, last, visits: 0 }
+    }
+}
+
+impl Net<'_> {
     fn walk(&mut self, at: u8, from: u128, allowed: u128, memory: &mut [Failures], path: &mut [u8]) -> bool {
         self.visits += 1;
         if path.is_empty() {
@@ -64,37 +112,30 @@ impl<'a> Net<'a> {
         if allowed & self.last == 0 {
             return false;
         }
-        let f = &memory[0];
-        if (0..KEPT).any(|j| f.people[j] == at && allowed & f.sets[j] == allowed) {
+        if memory[0].noted.iter().any(|f| f.person == at && allowed & f.allowed == allowed) {
             return false;
         }
-        let mut places = allowed & from & self.near[path.len() - 1];
-        while places != 0 {
-            let i = places.trailing_zeros() as usize;
-            if i >= self.links.count {
-                break;
-            }
-            places &= places - 1;
-            let (to, on, left) = (self.links.taker[i], self.onward[i], allowed & self.keep[i]);
-            if self.walk(to, on, left, &mut memory[1..], &mut path[1..]) {
+        for i in places(allowed & from & self.near[path.len() - 1]) {
+            let (taker, step) = (self.plan.links.links[i].taker, self.plan.steps[i]);
+            if self.walk(taker, step.onward, allowed & step.keep, &mut memory[1..], &mut path[1..]) {
                 path[0] = i as u8;
                 return true;
             }
         }
         let f = &mut memory[0];
         let j = f.next % KEPT;
-        (f.people[j], f.sets[j], f.next) = (at, allowed, j + 1);
+        (f.noted[j], f.next) = (Failure { person: at, allowed }, j + 1);
         false
     }
 }
 
 /// The length of the best chain, and the visits.
-fn best(links: &Links, owner: u8, target: u8, allowed: u128, most: usize) -> (Option<usize>, u64) {
-    let start = allowed & !places_of(&links.taker, owner);
-    let mut net = Net::new(links, target, start);
-    let from = places_of(&links.giver, owner);
+fn best(plan: &Plan, owner: u8, target: u8, allowed: u128, most: usize) -> (Option<usize>, u64) {
+    let start = allowed & !plan.links.to(owner);
+    let mut net = plan.net(target, start);
+    let from = plan.links.by(owner);
     for k in 0..most + 1 {
-        let mut memory = [Failures { people: [0; KEPT], sets: [0; KEPT], next: 0 }; 8];
+        let mut memory = [FRESH; 8];
         let mut path = [0u8; 8];
         if net.walk(owner, from, start, &mut memory[0..k], &mut path[0..k]) {
             return (Some(k), net.visits);
@@ -106,12 +147,13 @@ fn best(links: &Links, owner: u8, target: u8, allowed: u128, most: usize) -> (Op
 /// How many grants stand, and the visits of asking for all of them. A grant's column has the places
 /// whose grant condition is true of its state; a grant found not to stand is left out from then on.
 fn standing(links: &Links, owner: u8) -> (u32, u64) {
+    let plan = Plan::new(links);
     let mut visits = 0;
     let mut stand = 0;
     let mut resting = 0u128;
-    for j in 0..links.count {
-        let column = (0..links.count).filter(|i| links.row[*i] >> j & 1 == 1).fold(0, |s, i| s | 1 << i);
-        let (found, v) = best(links, owner, links.giver[j], column & !resting, 7);
+    for (j, link) in links.links[..links.count].iter().enumerate() {
+        let column = select(&links.links[..links.count], |other| other.row >> j & 1 == 1);
+        let (found, v) = best(&plan, owner, link.giver, column & !resting, 7);
         visits += v;
         match found {
             Some(_) => stand += 1,
@@ -147,12 +189,17 @@ fn rng(seed: u64) -> Rng {
 
 const ALL: u128 = (1 << 96) - 1;
 
+/// Links by and to nobody, each of which admits every other.
+fn no_links(count: usize) -> Links {
+    Links { links: [Link { giver: 0, taker: 0, row: ALL }; 96], count }
+}
+
 /// Eight stages of twelve grants in parallel: from person s + 1 to person s + 2.
 fn stages() -> Links {
-    let mut l = Links { giver: [0; 96], taker: [0; 96], row: [ALL; 96], count: 96 };
-    for i in 0..96 {
-        l.giver[i] = (i / 12) as u8 + 1;
-        l.taker[i] = (i / 12) as u8 + 2;
+    let mut l = no_links(96);
+    for (i, link) in l.links.iter_mut().enumerate() {
+        link.giver = (i / 12) as u8 + 1;
+        link.taker = (i / 12) as u8 + 2;
     }
     l
 }
@@ -162,7 +209,7 @@ fn stages() -> Links {
 fn bar(l: &mut Links, last: usize) {
     for b in 0..12 {
         for a in 0..12 {
-            l.row[b * last / 12 * 12 + a] &= !(1u128 << (last * 12 + b));
+            l.links[b * last / 12 * 12 + a].row &= !(1u128 << (last * 12 + b));
         }
     }
 }
@@ -183,7 +230,7 @@ fn records() -> Vec<(String, Links, u8)> {
             for s in 0..7 {
                 for a in 0..12 {
                     for later in (s + 1).max(from)..7 {
-                        l.row[s * 12 + a] &= !(1u128 << (later * 12 + r.below(12) as usize));
+                        l.links[s * 12 + a].row &= !(1u128 << (later * 12 + r.below(12) as usize));
                     }
                 }
             }
@@ -199,7 +246,7 @@ fn records() -> Vec<(String, Links, u8)> {
                 for a in 0..12 {
                     for later in s + 1..last {
                         if seed > 1 && later as u64 + 2 > seed {
-                            l.row[s * 12 + a] &= !(1u128 << (later * 12 + r.below(12) as usize));
+                            l.links[s * 12 + a].row &= !(1u128 << (later * 12 + r.below(12) as usize));
                         }
                     }
                 }
@@ -215,7 +262,7 @@ fn records() -> Vec<(String, Links, u8)> {
             for i in 0..96 {
                 for j in 0..84 {
                     if !r.chance(percent) {
-                        l.row[i] &= !(1u128 << j);
+                        l.links[i].row &= !(1u128 << j);
                     }
                 }
             }
@@ -226,12 +273,12 @@ fn records() -> Vec<(String, Links, u8)> {
     for (middle, copies) in [(4u8, 6usize), (5, 3), (6, 2), (8, 1)] {
         for percent in [95, 100] {
             let mut r = rng(middle as u64 * 1000 + percent);
-            let mut l = Links { giver: [0; 96], taker: [0; 96], row: [ALL; 96], count: 0 };
+            let mut l = no_links(0);
             for _ in 0..copies {
                 for a in 1..=middle + 1 {
                     for b in 2..=middle + 1 {
                         if a != b && l.count < 90 {
-                            (l.giver[l.count], l.taker[l.count]) = (a, b);
+                            l.links[l.count] = Link { giver: a, taker: b, row: ALL };
                             l.count += 1;
                         }
                     }
@@ -239,17 +286,17 @@ fn records() -> Vec<(String, Links, u8)> {
             }
             let ways = l.count;
             for _ in 0..6 {
-                (l.giver[l.count], l.taker[l.count]) = (middle + 1, middle + 2);
+                l.links[l.count] = Link { giver: middle + 1, taker: middle + 2, row: ALL };
                 l.count += 1;
             }
             for i in 0..ways {
                 for j in 0..ways {
                     if !r.chance(percent) {
-                        l.row[i] &= !(1u128 << j);
+                        l.links[i].row &= !(1u128 << j);
                     }
                 }
-                if l.taker[i] == middle + 1 {
-                    l.row[i] &= !(63u128 << ways);
+                if l.links[i].taker == middle + 1 {
+                    l.links[i].row &= !(63u128 << ways);
                 }
             }
             all.push((format!("everybody to everybody, {middle} persons, {copies} times, {percent} per cent"), l, middle + 2));
@@ -261,15 +308,15 @@ fn records() -> Vec<(String, Links, u8)> {
 /// Turns single bits of the worst record as long as that makes it no better.
 fn climb(start: &Links, target: u8, seconds: u64) -> (Links, u64, u64) {
     let mut r = rng(987654321);
-    let mut worst = (start.clone(), best(start, 1, target, ALL, 8).1);
+    let mut worst = (start.clone(), best(&Plan::new(start), 1, target, ALL, 8).1);
     let begun = std::time::Instant::now();
     let mut tries = 0;
     while begun.elapsed().as_secs() < seconds {
         let mut l = worst.0.clone();
         for _ in 0..1 + r.below(5) {
-            l.row[r.below(96) as usize] ^= 1u128 << r.below(96);
+            l.links[r.below(96) as usize].row ^= 1u128 << r.below(96);
         }
-        let (found, visits) = best(&l, 1, target, ALL, 8);
+        let (found, visits) = best(&Plan::new(&l), 1, target, ALL, 8);
         tries += 1;
         if found.is_none() && visits >= worst.1 {
             worst = (l, visits);
@@ -283,7 +330,7 @@ fn main() {
     let mut worst: Option<(String, Links, u8, u64)> = None;
     let mut most_standing = 0;
     for (name, l, target) in records() {
-        let (found, visits) = best(&l, 1, target, ALL, 8);
+        let (found, visits) = best(&Plan::new(&l), 1, target, ALL, 8);
         let (stand, all) = standing(&l, 1);
         println!("draw {visits:>8} visits ({found:?}), standing {all:>6} visits ({stand} stand): {name}");
         most_standing = most_standing.max(all);
@@ -296,11 +343,11 @@ fn main() {
     let (climbed, top, tries) = climb(&l, target, seconds);
     let all = standing(&climbed, 1).1;
     println!("worst draw after {tries} turned records: {top} visits, standing {all} visits");
-    let mut ladder = Links { giver: [0; 96], taker: [0; 96], row: [ALL; 96], count: 9 };
+    let mut ladder = no_links(9);
     for i in 0..9 {
-        (ladder.giver[i], ladder.taker[i]) = (i as u8 + 1, i as u8 + 2);
+        ladder.links[i] = Link { giver: i as u8 + 1, taker: i as u8 + 2, row: ALL };
     }
-    let draw = best(&ladder, 1, 9, ALL, 8);
+    let draw = best(&Plan::new(&ladder), 1, 9, ALL, 8);
     println!("ordinary, nine grants in a row: draw {} visits ({:?}), standing {} visits", draw.1, draw.0, standing(&ladder, 1).1);
     if top >= 2_000_000 || visits >= 2_000_000 || most_standing.max(all) >= 100_000 {
         std::process::exit(1);

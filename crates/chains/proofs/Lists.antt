@@ -1,8 +1,7 @@
 -- Laws of the words on lists.
-use Rattle.std.proofs.Common.{◌≡◌, ℕ, zero, suc, ◌+◌, ◌<◌, ◌≤◌, Bool, true, false, cond, ◌⊎◌, List, [], ◌∷◌, ◌++◌, map, length, get_or, take, Some, None, Decides, sym, refl, ap, ◌∙◌, subst, inl, inr, ⊎_elim, add-one, arith}
+use Rattle.std.proofs.Common.{◌≡◌, ℕ, Bool, true, false, cond, ◌⊎◌, List, [], ◌∷◌, ◌++◌, map, Some, None, Decides, sym, refl, ap, ◌∙◌, subst, inl, inr, ⊎_elim, arith}
 use Rattle.std.specs.List.{AllByRecursion}
-use Rattle.std.proofs.lemmas.List.{take_all}
-use Rattle.std.proofs.lemmas.Bool.{true≢false, both_ways, and_parts, and_from, and_left, and_right, or_left, or_right, or_cases}
+use Rattle.std.proofs.lemmas.Bool.{true≢false, both_ways, and_parts, and_from, or_left, or_right, or_cases}
 use Rattle.chains.specs.Lists.{In, Sorted, every, any, keep_if, first_of}
 
 module _ {X : Type 0} where
@@ -110,21 +109,3 @@ module _ {X Y : Type 0} where
   pub sorted_map : (R : X → X → Type 0) (S : Y → Y → Type 0) (f : X → Y) → ((x y : X) → R x y → S (f x) (f y)) → (xs : List X) → Sorted R xs → Sorted S (map f xs)
   sorted_map R S f g [] s = tt
   sorted_map R S f g (a ∷ xs) s = (in_all (S (f a)) (map f xs) (λ y i. let k = map_in f xs y i in subst (S (f a)) k.2 (g a k.0 (all_in (R a) xs s.0 k.0 k.1))), sorted_map R S f g xs s.1)
-
--- a loop that tests each one
-module _ {X : Type 0} (t : X → Bool) where
-  all_more_suc : (xs : List X) (i : ℕ) (d : X) → i < length xs → every t (take i xs) ≡ true → t (get_or xs i d) ≡ true → every t (take (suc i) xs) ≡ true
-  all_more_suc [] i d l a e = refl
-  all_more_suc (x ∷ xs) zero d l a e = and_from (t x) true e refl
-  all_more_suc (x ∷ xs) (suc i) d l a e = let p = and_parts (t x) (every t (take i xs)) a in and_from (t x) (every t (take (suc i) xs)) p.0 (all_more_suc xs i d (omega arith) p.1 e)
-
-  pub all_more : (xs : List X) (i : ℕ) (d : X) → i < length xs → every t (take i xs) ≡ true → t (get_or xs i d) ≡ true → every t (take (i + 1) xs) ≡ true
-  all_more xs i d l a e = rw add-one (all_more_suc xs i d l a e)
-
-  pub all_stop : (xs : List X) (i : ℕ) (d : X) → i < length xs → t (get_or xs i d) ≡ false → every t xs ≡ false
-  all_stop [] i d l e = absurd (omega arith)
-  all_stop (x ∷ xs) zero d l e = and_left (t x) (every t xs) e
-  all_stop (x ∷ xs) (suc i) d l e = and_right (t x) (every t xs) (all_stop xs i d (omega arith) e)
-
-  pub all_done : (xs : List X) (i : ℕ) → length xs ≤ i → every t (take i xs) ≡ true → every t xs ≡ true
-  all_done xs i le a = ap (every t) (sym (take_all i xs le)) ∙ a

@@ -1,6 +1,8 @@
 -- Words on lists.
-use Rattle.std.specs.Prelude.{◌≡◌, Bool, true, false, cond, ◌&&◌, ◌||◌, ◌⊎◌, List, [], ◌∷◌, Some, None, Option}
+use Rattle.std.specs.Prelude.{◌≡◌, Bool, cond, ◌⊎◌, List, [], ◌∷◌, Some, None, Option}
 use Rattle.std.specs.List.{AllByRecursion}
+-- every one passes the test, some one does
+pub use Rattle.std.specs.List.{list_all as every, list_any as any}
 
 -- x stands in the list
 abbrev pub In : {X : Type 0} → X → List X → Type 0
@@ -11,15 +13,6 @@ In x (y ∷ ys) = (y ≡ x) ⊎ In x ys
 abbrev pub Sorted : {X : Type 0} → (X → X → Type 0) → List X → Type 0
 Sorted R [] = Unit {0}
 Sorted R (x ∷ xs) = AllByRecursion (R x) xs × Sorted R xs
-
--- every one passes the test, some one does
-abbrev pub every : {X : Type 0} → (X → Bool) → List X → Bool
-every t [] = true
-every t (x ∷ xs) = t x && every t xs
-
-abbrev pub any : {X : Type 0} → (X → Bool) → List X → Bool
-any t [] = false
-any t (x ∷ xs) = t x || any t xs
 
 -- those that pass, in order
 abbrev pub keep_if : {X : Type 0} → (X → Bool) → List X → List X

@@ -12,6 +12,7 @@ use grants::Grant;
 use states::state::State;
 
 /// The two conditions of a grant: for drawing the key, and for granting it on.
+// stays: two named cases, and no function from a grant to a condition, since what is defined of chains names them too.
 #[derive(Clone, Copy)]
 pub enum Which {
     Execute,
@@ -28,6 +29,15 @@ impl Which {
             Which::Onward => grant.onward,
         }
     }
+}
+
+/// A draw: from the hook of the owner, by the person, in the state.
+#[derive(Clone, Copy)]
+pub struct Draw {
+    pub hook: u8,
+    pub owner: u8,
+    pub person: u8,
+    pub state: State,
 }
 
 /// Whether the number is a person's: from 1 to 200.
@@ -51,24 +61,16 @@ fn end_of(chain: &[Grant], owner: u8) -> u8
 fn is_new_to(chain: &[Grant], person: u8) -> bool
     ensures { result ≡ every (λ (b : Grant). not (b.grantee == person)) chain.now }
 {
-    for grant in chain {
-        if grant.grantee == person {
-            return false;
-        }
-    }
-    true
+    chain.iter().all(|grant| grant.grantee != person)
 }
 
 /// Whether that condition of each grant of the chain is true of the state.
 fn all_true<L: Language>(language: &L, chain: &[Grant], which: Which, state: &State) -> bool
     ensures { result ≡ every (λ (k : Grant). is_true (L.Language.says language.now (condition_of which k) state.now)) chain.now }
 {
-    for grant in chain {
-        if !holds(language, which.of(grant), state) {
-            return false;
-        }
-    }
-    true
+    chain
+        .iter()
+        .all(|grant| holds(language, which.of(grant), state))
 }
 
 /// Whether the grant may follow the chain.
@@ -115,21 +117,14 @@ fn leads_to<L: Language>(
     chain.len() <= most && is_valid(language, chain, hook, owner) && end_of(chain, owner) == person
 }
 
-/// Whether these grants, the newest first, are a chain of at most eight that justifies a draw from
-/// the hook by the person, over every record that holds them.
-pub fn serves<L: Language>(
-    language: &L,
-    chain: &[Grant],
-    hook: u8,
-    owner: u8,
-    person: u8,
-    state: &State,
-) -> bool
-    ensures decides { (all : List Grant) → Holds all chain.now → Decides result (Serves (L.Language.says language.now) recorded all hook owner person state.now chain.now) }
+/// Whether these grants, the newest first, are a chain of at most eight that justifies the draw,
+/// over every record that holds them.
+pub fn serves<L: Language>(language: &L, chain: &[Grant], draw: &Draw) -> bool
+    ensures decides { (all : List Grant) → Holds all chain.now → Decides result (Serves (L.Language.says language.now) recorded all draw.now.hook draw.now.owner draw.now.person draw.now.state chain.now) }
     ensures laws { DrawLaws }
 {
-    leads_to(language, chain, hook, owner, person, 8)
-        && all_true(language, chain, Which::Execute, state)
+    leads_to(language, chain, draw.hook, draw.owner, draw.person, 8)
+        && all_true(language, chain, Which::Execute, &draw.state)
 }
 
 /// Whether these grants, the newest first, are a chain of at most seven that justifies the grant,

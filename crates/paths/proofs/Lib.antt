@@ -1,4 +1,3 @@
-pub mod Tables
 mod Chains
 mod Walks
 mod Memories

@@ -1,5 +1,5 @@
 -- The chains over links are the chains over the record.
-use Rattle.std.proofs.Common.{◌≡◌, ℕ, ◌<◌, Bool, true, ◌&&◌, eqb, List, [], ◌∷◌, ◌++◌, length, get_or, sym, refl, ap, ◌∙◌, subst}
+use Rattle.std.proofs.Common.{◌≡◌, ℕ, ◌<◌, Bool, true, ◌&&◌, eqb, List, [], ◌∷◌, ◌++◌, length, sym, refl, ap, ◌∙◌, subst}
 use Rattle.std.specs.List.{AllByRecursion}
 use Rattle.std.proofs.lemmas.Bool.{and_parts, and_from, eqb-true, eq-eqb}
 use Rattle.states.specs.declared.state.State.{State}
@@ -7,8 +7,8 @@ use Rattle.grants.specs.declared.Grant.{Grant}
 use Rattle.conditions.specs.declared.truth.Truth.{Truth}
 use Rattle.conditions.specs.declared.truth.Truth.TheVariants.{True}
 use Rattle.conditions.specs.Truths.{is_true}
-use Rattle.paths.specs.Sets.{member}
-use Rattle.paths.specs.Chains.{Joins, AllIn, Admitted, NoneOf, Apart, reached, Chain as Way}
+use Rattle.places.specs.Sets.{member}
+use Rattle.paths.specs.Chains.{link, Joins, AllIn, Admitted, NoneOf, Apart, reached, Chain as Way}
 use Rattle.paths.specs.declared.links.Links.{Links}
 use Rattle.chains.specs.Chains.{Person, Chain, Valid, AllOnward}
 use Rattle.chains.specs.Laws.{recorded}
@@ -22,10 +22,10 @@ module _ (means : ℕ → State → Truth) (r : List Grant) (l : Links) (a h o :
   -- row has just the places whose state its grant condition is true of
   pub record Fits : Type 0 where
     pub count : l.count ≡ length r
-    pub giver : (i : ℕ) → i < length r → get_or l.giver i 0 ≡ (at r i).grantor
-    pub taker : (i : ℕ) → i < length r → get_or l.taker i 0 ≡ (at r i).grantee
+    pub giver : (i : ℕ) → i < length r → (link l i).giver ≡ (at r i).grantor
+    pub taker : (i : ℕ) → i < length r → (link l i).taker ≡ (at r i).grantee
     pub allowed : (i : ℕ) → i < length r → member a i ≡ (eqb (at r i).hook h && test (at r i))
-    pub rows : (i j : ℕ) → i < length r → j < length r → member a i ≡ true → member a j ≡ true → member (get_or l.row i 0) j ≡ is_true (means (at r i).onward (at r j).state)
+    pub rows : (i j : ℕ) → i < length r → j < length r → member a i ≡ true → member a j ≡ true → member (link l i).row j ≡ is_true (means (at r i).onward (at r j).state)
 
   module _ (fits : Fits) where
     -- each state of these places makes the grant condition of b true
@@ -33,7 +33,7 @@ module _ (means : ℕ → State → Truth) (r : List Grant) (l : Links) (a h o :
     Admits b w = AllByRecursion (λ j. means b.onward (at r j).state ≡ True) w
 
     -- the places of a row that are allowed
-    row_admits : (i : ℕ) (w : List ℕ) → i < length r → member a i ≡ true → AllByRecursion (λ j. j < length r) w → AllIn a w → AllIn (get_or l.row i 0) w → Admits (at r i) w
+    row_admits : (i : ℕ) (w : List ℕ) → i < length r → member a i ≡ true → AllByRecursion (λ j. j < length r) w → AllIn a w → AllIn (link l i).row w → Admits (at r i) w
     row_admits i [] lt m low al ro = tt
     row_admits i (j ∷ w) lt m low al ro = (
       (decides_is_true (means (at r i).onward (at r j).state)).0 (sym (fits.rows i j lt low.0 m al.0) ∙ ro.0),
@@ -69,7 +69,7 @@ module _ (means : ℕ → State → Truth) (r : List Grant) (l : Links) (a h o :
         let to = fits.taker i lt in
         let pass = and_parts (eqb g.hook h) (test g) (sym (fits.allowed i lt) ∙ s.allows.0) in
         let hs = heads c i w s.admits in
-        let ns = news c (get_or l.taker i 0) (reached l w) s.others in
+        let ns = news c (link l i).taker (reached l w) s.others in
         record {
           chain = (
             at_in r i lt,
@@ -115,7 +115,7 @@ module _ (means : ℕ → State → Truth) (r : List Grant) (l : Links) (a h o :
         })
 
     -- the rows of the places w have place i
-    rows_have : (i : ℕ) (w : List ℕ) → i < length r → member a i ≡ true → AllByRecursion (λ k. k < length r) w → AllIn a w → AllByRecursion (λ k. means (at r k).onward (at r i).state ≡ True) w → AllByRecursion (λ k. member (get_or l.row k 0) i ≡ true) w
+    rows_have : (i : ℕ) (w : List ℕ) → i < length r → member a i ≡ true → AllByRecursion (λ k. k < length r) w → AllIn a w → AllByRecursion (λ k. means (at r k).onward (at r i).state ≡ True) w → AllByRecursion (λ k. member (link l k).row i ≡ true) w
     rows_have i [] lt m low al tr = tt
     rows_have i (k ∷ w) lt m low al tr = (
       fits.rows k i low.0 lt al.0 m ∙ (decides_is_true (means (at r k).onward (at r i).state)).1 tr.0,
@@ -139,7 +139,7 @@ module _ (means : ℕ → State → Truth) (r : List Grant) (l : Links) (a h o :
         let low = subst (λ n. AllByRecursion (λ i. i < n) w) fits.count (joins_low l o g.grantor w way.joins) in
         let m : member a i ≡ true =
         fits.allowed i lt ∙ ap (λ (k : Grant). eqb k.hook h && test k) same ∙ and_from (eqb g.hook h) (test g) (eq-eqb g.hook h x.0.1) x.2.0 in
-        let to : get_or l.taker i 0 ≡ t = fits.taker i lt ∙ ap (λ (k : Grant). k.grantee) same ∙ x.0.2 in
+        let to : (link l i).taker ≡ t = fits.taker i lt ∙ ap (λ (k : Grant). k.grantee) same ∙ x.0.2 in
         let older = λ (P : Grant → Type 0) (all : AllByRecursion P c). (onto_all r P w [] (subst (AllByRecursion P) (sym below.1) all)).0 in
         let true_of : AllByRecursion (λ k. means (at r k).onward (at r i).state ≡ True) w =
         older (λ (k : Grant). means k.onward (at r i).state ≡ True) (subst (λ (k : Grant). AllOnward means c k.state) (sym same) x.1.1) in
@@ -150,6 +150,6 @@ module _ (means : ℕ → State → Truth) (r : List Grant) (l : Links) (a h o :
             joins = subst (Joins l o (w ++ (i ∷ []))) to (joins_push l o g.grantor i w way.joins (subst (λ n. i < n) (sym fits.count) lt) (fits.giver i lt ∙ ap (λ (k : Grant). k.grantor) same));
             allows = all_in_push a i w way.allows m;
             admitted = admitted_push l i w way.admitted (rows_have i w lt m low way.allows true_of);
-            apart = subst (λ xs. Apart (o ∷ xs)) (sym (reached_push l i w)) (apart_push (get_or l.taker i 0) (o ∷ reached l w) way.apart (subst (λ y. AllByRecursion (λ z. y ≡ z → ⊥) (o ∷ reached l w)) (sym to) fresh));
+            apart = subst (λ xs. Apart (o ∷ xs)) (sym (reached_push l i w)) (apart_push (link l i).taker (o ∷ reached l w) way.apart (subst (λ y. AllByRecursion (λ z. y ≡ z → ⊥) (o ∷ reached l w)) (sym to) fresh));
           },
         )

@@ -11,7 +11,7 @@ use Rattle.grants.specs.declared.Grant.{Grant}
 use Rattle.conditions.specs.declared.truth.Truth.{Truth}
 use Rattle.conditions.specs.declared.truth.Truth.TheVariants.{True}
 use Rattle.conditions.specs.Truths.{is_true}
-use Rattle.paths.specs.Sets.{member}
+use Rattle.places.specs.Sets.{member}
 use Rattle.paths.specs.Chains.{Best, route_of, Chain as Way}
 use Rattle.paths.specs.declared.links.Links.{Links}
 use Rattle.paths.specs.declared.route.Route.{Route}

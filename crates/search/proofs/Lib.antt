@@ -1,3 +1,4 @@
+pub mod Tables
 pub mod Places
 mod Snoc
 pub mod Marked

@@ -1,12 +1,14 @@
 -- Grants by place, and a list of places as a chain of grants.
-use Rattle.std.proofs.Common.{◌≡◌, ℕ, zero, suc, ◌+◌, ◌<◌, ◌≤◌, true, false, ◌&&◌, leb, ◌⊎◌, List, [], ◌∷◌, ◌++◌, map, reverse, length, get_or, drop, sym, refl, ap, ◌∙◌, subst, inl, inr, add-one, arith}
+use Rattle.std.proofs.Common.{◌≡◌, ℕ, zero, suc, ◌+◌, ◌<◌, ◌≤◌, Bool, true, false, leb, ltb, ◌⊎◌, List, [], ◌∷◌, ◌++◌, map, reverse, length, get_or, sym, refl, ap, ◌∙◌, subst, inl, inr, ⊎_elim, add-one, arith}
 use mathlib.Core.List.{reverse-cons}
-use Rattle.std.specs.List.{AllByRecursion}
+use Rattle.std.specs.List.{AllByRecursion, IsAllAdjacentAnswer}
 use Rattle.std.proofs.lemmas.List.{append-nil, append_assoc}
-use Rattle.std.proofs.lemmas.Bool.{and_parts, leb-true, lt-leb, le-leb}
+use Rattle.std.proofs.lemmas.Bool.{and_parts, and_from, leb-true, le-leb, ltb-true, ltb-false, cases_Bool}
 use Rattle.grants.specs.declared.Grant.{Grant}
 use Rattle.grants.specs.Blank.{blank}
+use Rattle.places.specs.Sets.{member}
 use Rattle.paths.specs.Chains.{NotAfter}
+use Rattle.paths.specs.declared.links.Link.{Link}
 use Rattle.chains.specs.Lists.{In}
 use Rattle.chains.specs.Order.{Lower, Rising}
 use Rattle.numbered.specs.Rows.{rises_from}
@@ -104,22 +106,36 @@ at_past [] i le = refl
 at_past (g ∷ r) zero le = absurd (omega arith)
 at_past (g ∷ r) (suc i) le = at_past r i (omega arith)
 
--- the loop over the numbers
-rise_step : (h i : ℕ) (r : List Grant) (d : Grant) → i < length r → rises_from number_of h (drop i r) ≡ (leb h (get_or r i d).number && rises_from number_of (suc (get_or r i d).number) (drop (i + 1) r))
-rise_step h i [] d lt = absurd (omega arith)
-rise_step h zero (g ∷ r) d lt = refl
-rise_step h (suc i) (g ∷ r) d lt =
-    let more : suc (i + 1) ≡ suc i + 1 = omega arith in
-    rise_step h i r d (omega arith) ∙ ap (λ k. leb h (get_or r i d).number && rises_from number_of (suc (get_or r i d).number) (drop k (g ∷ r))) more
+-- each number and the next rise, or some do not
+rise_from : (n : ℕ) (x : Grant) (xs : List Grant) → n ≤ x.number → ((k : ℕ) (d : Grant) → k < length xs → (get_or (x ∷ xs) k d).number < (get_or xs k d).number)
+    → rises_from number_of n (x ∷ xs) ≡ true
+rise_from n x [] low up = and_from (leb n x.number) true (le-leb n x.number low) refl
+rise_from n x (y ∷ xs) low up =
+    and_from (leb n x.number) (rises_from number_of (suc x.number) (y ∷ xs)) (le-leb n x.number low)
+    (rise_from (suc x.number) y xs (up 0 x (omega arith)) (λ k d lt. up (suc k) d (omega arith)))
 
-pub rise_stop : (h i : ℕ) (r : List Grant) (d : Grant) → i < length r → (get_or r i d).number < h → rises_from number_of h (drop i r) ≡ false
-rise_stop h i r d lt low = rise_step h i r d lt ∙ ap (λ b. b && rises_from number_of (suc (get_or r i d).number) (drop (i + 1) r)) (lt-leb h (get_or r i d).number low)
+rise_all : (xs : List Grant) → ((k : ℕ) (d : Grant) → k + 1 < length xs → (get_or xs k d).number < (get_or xs (k + 1) d).number) → rises_from number_of 0 xs ≡ true
+rise_all [] up = refl
+rise_all (x ∷ xs) up =
+    rise_from 0 x xs (omega arith) (λ k d lt. subst (λ m. (get_or (x ∷ xs) k d).number < (get_or (x ∷ xs) m d).number) (add-one k) (up k d (omega arith)))
 
-pub rise_more : (h i : ℕ) (r : List Grant) (d : Grant) → i < length r → h ≤ (get_or r i d).number → rises_from number_of h (drop i r) ≡ rises_from number_of ((get_or r i d).number + 1) (drop (i + 1) r)
-rise_more h i r d lt le =
-    rise_step h i r d lt
-    ∙ ap (λ b. b && rises_from number_of (suc (get_or r i d).number) (drop (i + 1) r)) (le-leb h (get_or r i d).number le)
-    ∙ sym (ap (λ k. rises_from number_of k (drop (i + 1) r)) (add-one (get_or r i d).number))
+pub rises_is : (xs : List Grant) (r : Bool) → IsAllAdjacentAnswer (λ (x y : Grant) b. b ≡ ltb x.number y.number) xs r → r ≡ rises_from number_of 0 xs
+rises_is xs true h = sym (rise_all xs (λ k d lt. ltb-true _ _ (sym (h k d lt))))
+rises_is xs false h =
+    ⊎_elim
+    (λ e. absurd (omega (arith, rises_at xs (rising 0 xs e) h.0 (h.0 + 1) (omega arith) h.1, ltb-false _ _ (sym (h.2 blank)))))
+    (λ e. sym e)
+    (cases_Bool (rises_from number_of 0 xs))
 
 pub record_rises : (r : List Grant) → is_record r ≡ true → Rising r
 record_rises r e = rising 0 r (and_parts (leb (length r) 96) (rises_from number_of 0 r) e).1
+
+abbrev pub no_link : Link
+no_link = record { giver = 0; taker = 0; row = 0 }
+
+-- the links of the record up to place m, with the columns as rows
+abbrev pub LinkedTo : List Grant → List ℕ → ℕ → List Link → Type 0
+LinkedTo r columns m links =
+    (k : ℕ) → k < m
+    → ((get_or links k no_link).giver ≡ (at r k).grantor) × ((get_or links k no_link).taker ≡ (at r k).grantee)
+    × ((j : ℕ) → j < 96 → member (get_or links k no_link).row j ≡ member (get_or columns j 0) k)

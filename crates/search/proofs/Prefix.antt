@@ -5,10 +5,10 @@ use Rattle.std.specs.List.{AllByRecursion}
 use Rattle.std.proofs.lemmas.List.{length-append}
 use Rattle.std.proofs.lemmas.Bool.{and_parts, and_from, cases_Bool, not_from_false}
 use Rattle.grants.specs.declared.Grant.{Grant}
-use Rattle.paths.specs.Sets.{member}
-use Rattle.paths.specs.Chains.{Joins, AllIn, Admitted, NoneOf, Apart, reached, Chain as Way}
+use Rattle.places.specs.Sets.{member}
+use Rattle.paths.specs.Chains.{link, Joins, AllIn, Admitted, NoneOf, Apart, reached, Chain as Way}
 use Rattle.paths.specs.declared.links.Links.{Links}
-use Rattle.paths.proofs.Members.{member_without}
+use Rattle.places.proofs.Members.{member_without}
 use Rattle.chains.specs.Chains.{Person}
 use Rattle.search.specs.Records.{at}
 use Rattle.search.specs.Asked.{Linked, Reached, ReachedAt}
@@ -25,10 +25,10 @@ module _ (r : List Grant) (l : Links) (columns owners : List ℕ) (linked : Link
     pub admitted : Admitted l u
     pub apart : Apart (o ∷ reached l u)
     pub fresh : AllByRecursion (λ y. NoneOf y (reached l w)) (o ∷ reached l u)
-    pub admits : AllByRecursion (λ k. AllIn (get_or l.row k 0) w) u
+    pub admits : AllByRecursion (λ k. AllIn (link l k).row w) u
     pub low : AllByRecursion (λ k. k < length r) u
 
-  heads : (i : ℕ) (u w : List ℕ) → AllByRecursion (λ k. AllIn (get_or l.row k 0) (i ∷ w)) u → AllByRecursion (λ k. member (get_or l.row k 0) i ≡ true) u × AllByRecursion (λ k. AllIn (get_or l.row k 0) w) u
+  heads : (i : ℕ) (u w : List ℕ) → AllByRecursion (λ k. AllIn (link l k).row (i ∷ w)) u → AllByRecursion (λ k. member (link l k).row i ≡ true) u × AllByRecursion (λ k. AllIn (link l k).row w) u
   heads i [] w a = (tt, tt)
   heads i (k ∷ u) w a = let x = heads i u w a.1 in ((a.0.0, x.0), (a.0.1, x.1))
 
@@ -36,7 +36,7 @@ module _ (r : List Grant) (l : Links) (columns owners : List ℕ) (linked : Link
   fresh_heads x [] xs a = (tt, tt)
   fresh_heads x (y ∷ ys) xs a = let z = fresh_heads x ys xs a.1 in ((a.0.0, z.0), (a.0.1, z.1))
 
-  in_column : (i : ℕ) (u : List ℕ) → i < length r → AllByRecursion (λ k. k < length r) u → AllByRecursion (λ k. member (get_or l.row k 0) i ≡ true) u → AllIn (get_or columns i 0) u
+  in_column : (i : ℕ) (u : List ℕ) → i < length r → AllByRecursion (λ k. k < length r) u → AllByRecursion (λ k. member (link l k).row i ≡ true) u → AllIn (get_or columns i 0) u
   in_column i [] lt low a = tt
   in_column i (k ∷ u) lt low a = (sym (linked.row k i low.0 lt) ∙ a.0, in_column i u lt low.1 a.1)
 
@@ -46,7 +46,7 @@ module _ (r : List Grant) (l : Links) (columns owners : List ℕ) (linked : Link
   all_reached p t u (i ∷ w) b js ad ap' few own low =
       let lt = low.0 in
       let hs = heads i u w b.admits in
-      let fs = fresh_heads (get_or l.taker i 0) (o ∷ reached l u) (reached l w) b.fresh in
+      let fs = fresh_heads (link l i).taker (o ∷ reached l u) (reached l w) b.fresh in
       let way : Way l o (at r i).grantor (get_or columns i 0) u = record {
         joins = subst (Joins l o u) (sym js.1 ∙ linked.giver i lt) b.joins;
         allows = in_column i u lt b.low hs.0;
@@ -55,13 +55,13 @@ module _ (r : List Grant) (l : Links) (columns owners : List ℕ) (linked : Link
       } in
       let long : length (u ++ (i ∷ [])) ≡ length u + 1 = length-append u (i ∷ []) in (
         subst (λ x. Reached l x (at r i).grantor (get_or columns i 0)) (sym own.0) (u, person, omega (arith, few), way),
-        all_reached (get_or l.taker i 0) t (u ++ (i ∷ [])) w
+        all_reached (link l i).taker t (u ++ (i ∷ [])) w
             (record {
               joins = joins_push l o p i u b.joins js.0 js.1;
               admitted = admitted_push l i u b.admitted hs.0;
-              apart = subst (λ xs. Apart (o ∷ xs)) (sym (reached_push l i u)) (apart_push (get_or l.taker i 0) (o ∷ reached l u) b.apart fs.0);
-              fresh = subst (λ xs. AllByRecursion (λ y. NoneOf y (reached l w)) (o ∷ xs)) (sym (reached_push l i u)) (all_push (λ y. NoneOf y (reached l w)) (o ∷ reached l u) (get_or l.taker i 0) fs.1 ap'.0);
-              admits = all_push (λ k. AllIn (get_or l.row k 0) w) u i hs.1 ad.0;
+              apart = subst (λ xs. Apart (o ∷ xs)) (sym (reached_push l i u)) (apart_push (link l i).taker (o ∷ reached l u) b.apart fs.0);
+              fresh = subst (λ xs. AllByRecursion (λ y. NoneOf y (reached l w)) (o ∷ xs)) (sym (reached_push l i u)) (all_push (λ y. NoneOf y (reached l w)) (o ∷ reached l u) (link l i).taker fs.1 ap'.0);
+              admits = all_push (λ k. AllIn (link l k).row w) u i hs.1 ad.0;
               low = all_push (λ k. k < length r) u i b.low lt;
             }) js.2 ad.1 ap'.1 (omega (arith, few, long)) own.1 low.1,
       )

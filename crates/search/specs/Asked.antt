@@ -8,8 +8,8 @@ use Rattle.chains.specs.declared.chain.Which.{Which}
 use Rattle.chains.specs.declared.chain.Which.TheVariants.{Onward}
 use Rattle.chains.specs.Chains.{Person}
 use Rattle.chains.specs.Search.{condition_of}
-use Rattle.paths.specs.Sets.{member}
-use Rattle.paths.specs.Chains.{Chain}
+use Rattle.places.specs.Sets.{member}
+use Rattle.paths.specs.Chains.{link, Chain}
 use Rattle.paths.specs.declared.links.Links.{Links}
 use Rattle.paths.specs.declared.plan.Plan.{Plan}
 use Rattle.search.specs.Records.{at}
@@ -31,9 +31,9 @@ module _ (means : ℕ → State → Truth) where
 -- links of the record: who gave, who was given, and the columns as rows
 pub record Linked (r : List Grant) (columns : List ℕ) (l : Links) : Type 0 where
   pub count : l.count ≡ length r
-  pub giver : (i : ℕ) → i < length r → slice_index l.giver i ≡ (at r i).grantor
-  pub taker : (i : ℕ) → i < length r → slice_index l.taker i ≡ (at r i).grantee
-  pub row : (i j : ℕ) → i < length r → j < length r → member (slice_index l.row i) j ≡ member (slice_index columns j) i
+  pub giver : (i : ℕ) → i < length r → (link l i).giver ≡ (at r i).grantor
+  pub taker : (i : ℕ) → i < length r → (link l i).taker ≡ (at r i).grantee
+  pub row : (i j : ℕ) → i < length r → j < length r → member (link l i).row j ≡ member (slice_index columns j) i
 
 -- every place of a column is of its hook
 abbrev pub OneHook : List Grant → List ℕ → Type 0

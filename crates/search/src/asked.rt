@@ -1,32 +1,13 @@
 //! The questions to the language.
-ghost use Rattle.std.specs.Prelude.{◌≡◌, ℕ, ◌<◌, ◌≤◌, true, length};
-ghost use Rattle.paths.specs.Sets.{member};
+ghost use Rattle.std.specs.Prelude.{◌≡◌, length};
 ghost use Rattle.search.specs.Asked.{passes, Passing, ColumnsTo};
 
+use crate::record::Record;
 use chains::chain::Which;
 use conditions::language::{Language, holds};
 use grants::Grant;
+use places::{has, select};
 use states::state::State;
-
-/// Whether place `i` is in the set.
-pub(crate) fn has(set: u128, i: usize) -> bool
-    requires { i < 128 }
-    ensures { result ≡ member set i }
-{
-    (set >> i) % 2 == 1
-}
-
-/// The set of the first `count` places.
-pub(crate) fn first_places(count: usize) -> u128
-    requires { count ≤ 96 }
-    ensures { (i : ℕ) → i < count → member result i ≡ true }
-{
-    let mut set = 0u128;
-    for i in 0..count {
-        set = set | (1u128 << i);
-    }
-    set
-}
 
 /// Whether the grant is of the hook, and that condition of it is true of the state.
 fn is_passing<L: Language>(
@@ -41,36 +22,33 @@ fn is_passing<L: Language>(
     grant.hook == hook && holds(language, which.of(grant), state)
 }
 
-/// The places of such grants.
-pub(crate) fn passing<L: Language>(
-    language: &L,
-    grants: &[Grant],
-    hook: u8,
-    which: Which,
-    state: &State,
-) -> u128
-    requires { length grants.now ≤ 96 }
-    ensures { Passing (L.Language.says language.now) grants.now hook which state.now result }
-{
-    let mut set = 0u128;
-    for (i, grant) in grants.iter().enumerate() {
-        if is_passing(language, grant, hook, which, state) {
-            set = set | (1u128 << i);
-        }
+impl Record<'_> {
+    /// The places of such grants.
+    pub(crate) fn passing<L: Language>(
+        &self,
+        language: &L,
+        hook: u8,
+        which: Which,
+        state: &State,
+    ) -> u128
+        ensures { Passing (L.Language.says language.now) self.now.grants.now hook which state.now result }
+    {
+        select(
+            self.grants,
+            |grant| is_passing(language, grant, hook, which, state),
+        )
     }
-    set
-}
 
-/// For each place of `among`, the places of its hook whose grant condition is true of its state.
-pub(crate) fn columns<L: Language>(language: &L, grants: &[Grant], among: u128) -> [u128; 96]
-    requires { length grants.now ≤ 96 }
-    ensures { ColumnsTo (L.Language.says language.now) grants.now among (length grants.now) result }
-{
-    let mut columns = [0u128; 96];
-    for (j, grant) in grants.iter().enumerate() {
-        if has(among, j) {
-            columns[j] = passing(language, grants, grant.hook, Which::Onward, &grant.state);
+    /// For each place of `among`, the places of its hook whose grant condition is true of its state.
+    pub(crate) fn columns<L: Language>(&self, language: &L, among: u128) -> [u128; 96]
+        ensures { ColumnsTo (L.Language.says language.now) self.now.grants.now among (length self.now.grants.now) result }
+    {
+        let mut columns = [0u128; 96];
+        for (j, grant) in self.grants.iter().enumerate() {
+            if has(among, j) {
+                columns[j] = self.passing(language, grant.hook, Which::Onward, &grant.state);
+            }
         }
+        columns
     }
-    columns
 }

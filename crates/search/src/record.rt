@@ -1,27 +1,41 @@
 //! Records that can exist.
-ghost use Rattle.std.specs.Prelude.{◌≡◌};
+ghost use Rattle.std.specs.Prelude.{◌≡◌, ◌≤◌, true, false, length, MatchOption};
 ghost use Rattle.numbered.specs.Rows.{rises_from};
 ghost use Rattle.search.specs.Records.{number_of, is_record};
 
 use grants::Grant;
 
-/// Whether the numbers rise strictly, the first at least `low`.
-fn rises_from(low: u64, grants: &[Grant]) -> bool
-    ensures { result ≡ rises_from number_of low grants.now }
+/// Whether the numbers rise strictly.
+fn rises(grants: &[Grant]) -> bool
+    ensures { result ≡ rises_from number_of 0 grants.now }
 {
-    let mut least = low;
-    for grant in grants {
-        if (grant.number as u64) < least {
-            return false;
-        }
-        least = grant.number as u64 + 1;
-    }
-    true
+    grants.is_sorted_by(|earlier, later| earlier.number < later.number)
 }
 
 /// Whether there are at most 96 grants, and their numbers rise.
-pub(crate) fn is_record(grants: &[Grant]) -> bool
+fn is_record(grants: &[Grant]) -> bool
     ensures { result ≡ is_record grants.now }
 {
-    grants.len() <= 96 && rises_from(0, grants)
+    grants.len() <= 96 && rises(grants)
+}
+
+/// At most 96 grants, whose numbers rise.
+#[derive(Clone, Copy)]
+pub(crate) struct Record<'a> {
+    pub grants: &'a [Grant],
+    ghost few: { length grants.now ≤ 96 },
+    ghost is: { is_record grants.now ≡ true },
+}
+
+impl<'a> Record<'a> {
+    /// The grants as a record, if they are one.
+    pub(crate) fn of(grants: &'a [Grant]) -> Option<Record<'a>>
+        ensures { MatchOption result (is_record grants.now ≡ false) (λ r. r.grants.now ≡ grants.now) }
+    {
+        if is_record(grants) {
+            Some(Record { grants })
+        } else {
+            None
+        }
+    }
 }

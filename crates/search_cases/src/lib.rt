@@ -2,12 +2,14 @@
 #![tactic(auto)]
 
 pub mod masks;
-pub mod plain;
+#[cfg(test)]
+mod plain;
 
 #[cfg(test)]
 mod tests {
     use crate::masks::Masks;
-    use crate::plain::{Draw, first_chain};
+    use crate::plain::first_chain;
+    use chains::chain::Draw;
     use grants::{Grant, Mode};
     use search::named::Named;
     use search::search::{chain_for, standing, stands};
@@ -41,14 +43,21 @@ mod tests {
 
     // The first two numbers and the length of a chain.
     fn told(named: Option<Named>) -> Option<(usize, u32, u32)> {
-        match named {
-            Some(chain) => Some((chain.length, chain.numbers[0], chain.numbers[1])),
-            None => None,
+        named.map(|chain| (chain.length, chain.numbers[0], chain.numbers[1]))
+    }
+
+    // A draw from hook 0, whose owner is person 1, in a state of which nothing is known.
+    fn draw(person: u8) -> Draw {
+        Draw {
+            hook: 0,
+            owner: 1,
+            person,
+            state: groups(None),
         }
     }
 
     fn drawn(grants: &[Grant], person: u8) -> Option<(usize, u32, u32)> {
-        told(chain_for(&Masks, grants, 0, 1, person, &groups(None)))
+        told(chain_for(&Masks, grants, &draw(person)))
     }
 
     #[test]
@@ -139,7 +148,7 @@ mod tests {
     fn tangled(seed: u64) -> [Grant; 16] {
         let mut record = [grant(1, 1, 2, 0, None); 16];
         let mut x = step(step(seed));
-        for i in 0..16u8 {
+        for (i, row) in record.iter_mut().enumerate() {
             x = step(x);
             let onward = if x % 3 == 0 {
                 0
@@ -153,31 +162,9 @@ mod tests {
             };
             let grantor = (x / 4096 % 6) as u8 + 1;
             let grantee = (x / 65536 % 5) as u8 + 2;
-            record[i as usize] = grant(2 * i as u32 + 1, grantor, grantee, onward, known);
+            *row = grant(2 * i as u32 + 1, grantor, grantee, onward, known);
         }
         record
-    }
-
-    fn equal(a: &Named, b: &Named) -> bool {
-        if a.length != b.length {
-            return false;
-        }
-        for k in 0..8 {
-            if a.numbers[k] != b.numbers[k] {
-                return false;
-            }
-        }
-        true
-    }
-
-    fn same(a: &Option<Named>, b: &Option<Named>) -> bool {
-        match a {
-            None => b.is_none(),
-            Some(x) => match b {
-                None => false,
-                Some(y) => equal(x, y),
-            },
-        }
     }
 
     #[test]
@@ -186,18 +173,12 @@ mod tests {
         for seed in 1..40u64 {
             let record = tangled(seed * 7919);
             for person in 1..7u8 {
-                let state = groups(None);
-                let named = chain_for(&Masks, &record, 0, 1, person, &state);
+                let draw = draw(person);
+                let named = chain_for(&Masks, &record, &draw);
                 if named.is_some() && found < 1000 {
                     found += 1;
                 }
-                let draw = Draw {
-                    hook: 0,
-                    owner: 1,
-                    person,
-                    state,
-                };
-                assert!(rt; same(&named, &first_chain(&Masks, &record, &draw)));
+                assert_eq!(rt; named, first_chain(&Masks, &record, &draw));
             }
         }
         assert!(rt; found > 60);

@@ -1,10 +1,9 @@
-use Rattle.std.proofs.Common.{◌<◌, ◌^◌, arith}
-use lib.Count.{count_trailing_zeros}
-use Rattle.places.proofs.Members.{zeros_below, zeros_end, zeros_room}
+use Rattle.std.proofs.Common.{eqb, ap, arith}
+use Rattle.std.specs.Int.{w128}
+use Rattle.std.proofs.lemmas.Nat.Bits.{bit_at-trailing_zeros}
 use Rattle.places.proofs.first.Goals as goal
 
 pub returns : goal.returns
 returns c =
-    let fits : c.args.set < 2 ^ 128 = c.ranges.set.fits in
-    let low : count_trailing_zeros 128 c.args.set < 128 = zeros_room 128 c.args.set (omega (arith, c.if-set-eq0.false)) fits in
-    (low, zeros_end 128 c.args.set low, zeros_below 128 c.args.set)
+    let lowest = bit_at-trailing_zeros w128 c.args.set (omega (arith, c.if-set-eq0.false)) c.ranges.set.fits in
+    (lowest.0, ap (λ z. eqb z 1) lowest.1, λ j lt. ap (λ z. eqb z 1) (lowest.2 j lt))
