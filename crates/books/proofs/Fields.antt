@@ -1,5 +1,5 @@
 -- How a book is checked field by field, and that the tests are the rules.
-use Rattle.std.proofs.Common.{◌≡◌, ℕ, zero, suc, ◌+◌, ◌-◌, ◌*◌, ◌<◌, ◌≤◌, Bool, true, false, cond, ◌&&◌, ltb, leb, ◌⊎◌, List, length, get_or, take, drop, is_some, Some, None, Ok, Err, Option, Result, sym, refl, ap, ◌∙◌, subst, inl, inr, ⊎_elim, add-one, arith, length-drop, length-take, get_or-drop, get_or-take, drop-drop}
+use Rattle.std.proofs.Common.{◌≡◌, ℕ, zero, suc, ◌+◌, ◌-◌, ◌<◌, ◌≤◌, Bool, true, false, cond, ◌&&◌, ltb, leb, ◌⊎◌, List, length, get_or, take, drop, is_some, Some, None, Ok, Err, Option, Result, sym, refl, ap, ◌∙◌, subst, inl, inr, ⊎_elim, add-one, arith, length-drop, length-take, get_or-drop, get_or-take}
 use Rattle.std.proofs.lemmas.List.{get_or_past}
 use Rattle.std.proofs.lemmas.Bool.{cases_lt, cond-true, cond-false, and_from, and_parts, lt-leb, le-leb, lt-ltb, leb-true, leb-false, ltb-true, cond_both, eqb-true, eq-eqb, ne_eqb}
 use Rattle.std.specs.Result.{result_unwrap_or}
@@ -69,10 +69,10 @@ module _ {bs : List ℕ} {at k : ℕ} (w : Walk bs at k) where
 
 pub when_some : {A : Type 0} (b : Bool) (x y : A) → Some x ≡ when b y → (b ≡ true) × (x ≡ y)
 when_some true x y e = (refl, cc)
-when_some false x y e = let z : ◌≡◌ {A = ℕ} 0 1 = cc in absurd (omega arith)
+when_some false x y e = absurd cc
 
 pub when_none : {A : Type 0} (b : Bool) (y : A) → None ≡ when b y → b ≡ false
-when_none true y e = let z : ◌≡◌ {A = ℕ} 0 1 = cc in absurd (omega arith)
+when_none true y e = absurd cc
 when_none false y e = refl
 
 -- what a field's test says
@@ -106,10 +106,6 @@ good_whole bs p e = whole (drop p bs) (and_parts _ _ e).0
 pub good_room : (bs : List ℕ) (p : ℕ) → good_at bs p ≡ true → p + (3 + long (drop p bs)) ≤ length bs
 good_room bs p e = omega (arith, (good_whole bs p e).room, length-drop p bs)
 
--- the stated length, as the book has it
-pub long_at : (bs : List ℕ) (p : ℕ) → long (drop p bs) ≡ 256 * get_or bs (p + 1) 0 + get_or bs (p + 2) 0
-long_at bs p = (λ i. 256 * get_or-drop p bs 1 0 i + get_or-drop p bs 2 0 i)
-
 by_cond : {A : Type 0} (b : Bool) (x y z : A) → cond b x y ≡ z → ((b ≡ true) × (x ≡ z)) ⊎ ((b ≡ false) × (y ≡ z))
 by_cond true x y z e = inl (refl, e)
 by_cond false x y z e = inr (refl, e)
@@ -118,7 +114,7 @@ same_ok : (k m : ℕ) → ◌≡◌ {A = Result ℕ Fault} (Ok k) (Ok m) → k �
 same_ok k m e = cc
 
 not_ok : (p : Fault) (m : ℕ) → ◌≡◌ {A = Result ℕ Fault} (Err p) (Ok m) → ⊥
-not_ok p m e = let z : ◌≡◌ {A = ℕ} 0 1 = cc in omega arith
+not_ok p m e = cc
 
 formed_more : (bs : List ℕ) (k : ℕ) → k < 1022 → Formed bs k → good_at bs (start bs k) ≡ true → Formed bs (suc k)
 formed_more bs k few formed good =
@@ -152,22 +148,13 @@ opened bs e = subst (Formed bs) (sym e) (opened_formed bs (checked bs) refl)
 pub good_head : (bs : List ℕ) (m k p : ℕ) → Formed bs m → k < m → p ≡ start bs k → p + 3 ≤ length bs
 good_head bs m k p formed h e = omega (arith, good_room bs (start bs k) (formed.1 k h), e)
 
-pub good_part : (bs : List ℕ) (m k p n : ℕ) → Formed bs m → k < m → p ≡ start bs k → n ≡ long (drop p bs) → p + 3 + n ≤ length bs
-good_part bs m k p n formed h e is = omega (arith, good_room bs (start bs k) (formed.1 k h), e, is ∙ ap (λ q. long (drop q bs)) e)
-
 pub start_more : (bs : List ℕ) (k p n : ℕ) → p ≡ start bs k → n ≡ long (drop p bs) → p + (3 + n) ≡ start bs (k + 1)
 start_more bs k p n e is = ap (λ m. p + (3 + m)) is ∙ ap (λ q. q + (3 + long (drop q bs))) e ∙ sym (ap (start bs) (add-one k))
-
-pub part_body : (bs : List ℕ) (k p n : ℕ) → p ≡ start bs k → n ≡ long (drop p bs) → take n (drop (p + 3) bs) ≡ condition_bytes bs k
-part_body bs k p n e is = ap (λ m. take m (drop (p + 3) bs)) is ∙ ap (take (long (drop p bs))) (sym (drop-drop 3 p bs)) ∙ ap (λ q. body (drop q bs)) e
-
-pub body_spelled : (bs : List ℕ) (m k : ℕ) → Formed bs m → k < m → is_some (tree (condition_bytes bs k)) ≡ true
-body_spelled bs m k formed h = (good_whole bs (start bs k) (formed.1 k h)).spelled
 
 -- ---- the tests are the rules
 
 some_tree : (o : Option Tree) → is_some o ≡ true → (t : Tree) × (o ≡ Some t)
-some_tree None e = absurd (let z : ◌≡◌ {A = ℕ} 0 1 = cc in omega arith)
+some_tree None e = absurd cc
 some_tree (Some t) e = (t, refl)
 
 bytes_drop : (p : ℕ) (bs : List ℕ) → Bytes bs → Bytes (drop p bs)
@@ -228,16 +215,12 @@ judged_from (suc f) bs k bytes formed h enough =
     (λ e. (omega (arith, leb-true (length bs) (start bs k) e), formed_rules bs k bytes formed))
     (λ e. cond_both (test bs k) (checked_from f bs (suc k)) (Err (fault ConditionsIllFormed (start bs k))) P
     (λ g. let both = and_parts _ _ g in judged_from f bs (suc k) bytes (formed_more bs k (ltb-true k 1022 both.0) formed both.1) (good_room bs (start bs k) both.1) (omega arith))
-    (λ g. (k, refl, leb-false (length bs) (start bs k) e, formed_rules bs k bytes formed, λ r. let e1 = rules_test bs k r in let z : ◌≡◌ {A = ℕ} 0 1 = cc in omega arith)))
+    (λ g. (k, refl, leb-false (length bs) (start bs k) e, formed_rules bs k bytes formed, λ r. let e1 = rules_test bs k r in cc)))
 
 pub judged : (bs : List ℕ) → Bytes bs → Judged bs (checked bs)
 judged bs bytes = judged_from (length bs) bs 0 bytes (formed_none bs) (omega arith) (omega arith)
 
--- ---- where the conditions begin
-
--- the k-th field begins early enough for two bytes to tell where
-pub start_low : (bs : List ℕ) (m k p : ℕ) → Formed bs m → k < m → p ≡ start bs k → p < 65536
-start_low bs m k p formed h e = omega (arith, leb-true (start bs k + (3 + long (drop (start bs k) bs))) 65535 (and_parts _ _ (formed.1 k h)).1, e)
+-- ---- what a condition says
 
 pub meant : Meant
 meant bs count n t s low high spells =

@@ -5,25 +5,21 @@ ghost use Rattle.books.specs.Readings.{Spelled};
 ghost use Rattle.books.specs.Books.{long, good_at, field_at, checked, Judged};
 
 use crate::formula::is_formula;
-use crate::part::{part, rest_from, wide};
+use crate::item::wide;
 use faults::{Fault, Refusal};
 
 /// The length of the condition, if a whole field with one stands at the front.
 fn condition_len(rest: &[u8]) -> Option<usize>
     ensures { result ≡ field_at rest.now }
 {
-    let [0xC1, high, low, ..] = rest else {
+    let [0xC1, high, low, behind @ ..] = rest else {
         return None;
     };
     let size = wide(*high, *low) as usize;
-    if size < 1 || size > 64 || 3 + size > rest.len() {
+    if size < 1 || size > 64 {
         return None;
     }
-    if is_formula(part(rest, 3, size)) {
-        Some(size)
-    } else {
-        None
-    }
+    is_formula(behind.get(..size)?).then_some(size)
 }
 
 /// The same of the field at `at`, behind `count` others; a field is excess if it is past the
@@ -32,10 +28,7 @@ fn next_field(bytes: &[u8], at: usize, count: u16) -> Option<usize>
     requires { at ≤ length bytes.now }
     ensures { result ≡ when (nat_lt count 1022 && good_at bytes.now at) (long (drop at bytes.now)) }
 {
-    match condition_len(rest_from(bytes, at)) {
-        Some(size) if count < 1022 && at + (3 + size) <= 65535 => Some(size),
-        _ => None,
-    }
+    condition_len(&bytes[at..]).filter(|size| count < 1022 && at + (3 + *size) <= 65535)
 }
 
 /// How many conditions the book has; refused with the byte of the first bad or excess field.

@@ -10,7 +10,7 @@ ghost use Rattle.books.specs.Windows.{office_hours, Window};
 use crate::book::Book;
 use crate::field::check;
 use crate::formula::truth_of;
-use crate::part::{part, wide};
+use crate::item::wide;
 use conditions::language::Language;
 use conditions::truth::Truth;
 use states::state::State;
@@ -36,7 +36,7 @@ fn value_at<'a>(bytes: &'a [u8], at: usize, size: usize) -> &'a [u8]
     ensures value { result.now ≡ take size (drop (at + 3) bytes.now) }
     ensures place { result.ref_ptr ≡ (bytes.entry.ref_ptr.0, bytes.entry.ref_ptr.1 + (at + 3)) }
 {
-    part(bytes, at + 3, size)
+    &bytes[at + 3..at + 3 + size]
 }
 
 /// Where each of the first `count` fields begins.
@@ -46,8 +46,8 @@ fn starts_of(bytes: &[u8], count: u16) -> [u16; 1022]
 {
     let mut starts = [0u16; 1022];
     let mut at = 0;
-    for k in 0..count as usize {
-        starts[k] = at as u16;
+    for start in &mut starts[..count as usize] {
+        *start = at as u16;
         at += 3 + stated_len(bytes, at);
     }
     starts
@@ -96,13 +96,13 @@ impl<'a> Language for Book<'a> {
     }
 
     fn truth(&self, n: u16, state: &State) -> Truth {
+        // stays: a shared function for 0 and 1 would take the rest as a closure with its own clauses
         match n {
             0 => Truth::True,
             1 => Truth::False,
-            _ => match self.condition(n) {
-                Some(bytes) => truth_of(bytes, state),
-                None => Truth::Unknown,
-            },
+            _ => self
+                .condition(n)
+                .map_or(Truth::Unknown, |bytes| truth_of(bytes, state)),
         }
     }
 }
