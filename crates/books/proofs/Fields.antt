@@ -1,15 +1,16 @@
 -- How a book is checked field by field, and that the tests are the rules.
-use Rattle.std.proofs.Common.{◌≡◌, ℕ, zero, suc, ◌+◌, ◌-◌, ◌*◌, ◌<◌, ◌≤◌, Bool, true, false, cond, ◌&&◌, ltb, leb, ◌⊎◌, List, length, get_or, take, drop, is_some, Some, None, Ok, Err, Option, Result, sym, refl, ap, ◌∙◌, subst, inl, inr, ⊎_elim, add-one, arith, length-drop, length-take, get_or-drop, get_or-take, drop-drop}
-use Rattle.std.proofs.lemmas.List.{get_or_past}
+use Rattle.std.proofs.Common.{◌≡◌, ℕ, zero, suc, ◌+◌, ◌-◌, ◌<◌, ◌≤◌, Bool, true, false, cond, ◌&&◌, ltb, leb, ◌⊎◌, List, [], ◌∷◌, ◌++◌, length, get_or, take, drop, is_some, Some, None, Ok, Err, Option, Result, sym, refl, ap, ◌∙◌, subst, inl, inr, ⊎_elim, add-one, arith, length-drop, length-take, get_or-drop, get_or-take, drop-drop}
+use Rattle.std.proofs.lemmas.List.{get_or_past, get_or_append_left}
+use Rattle.std.proofs.Math.Seq.{get_or-append_seam}
 use Rattle.std.proofs.lemmas.Bool.{cases_lt, cond-true, cond-false, and_from, and_parts, lt-leb, le-leb, lt-ltb, leb-true, leb-false, ltb-true, cond_both, eqb-true, eq-eqb, ne_eqb}
-use Rattle.std.specs.Result.{result_unwrap_or}
+use Rattle.std.specs.Result.{MatchResult, IfOk, result_unwrap_or}
+use Rattle.arrayvec.specs.ArrayVec.{ArrayVec, array_vec_len}
 use Rattle.faults.specs.declared.Fault.{Fault}
 use Rattle.faults.specs.declared.Refusal.TheVariants.{ConditionsIllFormed}
 use Rattle.faults.specs.Faults.{fault}
-use Rattle.books.specs.Items.{when}
 use Rattle.books.specs.Trees.{Tree}
 use Rattle.books.specs.Readings.{tree, truth_of, Bytes}
-use Rattle.books.specs.Books.{long, body, condition_bytes, field_ok, start, good_at, checked_from, checked, Formed, Field, Rules, Judged, Meant}
+use Rattle.books.specs.Books.{long, body, condition_bytes, field_ok, start, good_at, checked_from, checked, Formed, Placed, Field, Rules, Judged, Meant}
 use Rattle.books.proofs.Spelling.{found, spelled}
 
 start_ge : (bs : List ℕ) (k : ℕ) → k ≤ start bs k
@@ -24,9 +25,10 @@ pub record Walk (bs : List ℕ) (at k : ℕ) : Type 0 where
   pub enough : length bs ≤ fuel + k
   pub same : checked_from fuel bs k ≡ checked bs
   pub within : at ≤ length bs
+  pub low : at ≤ 65535
 
 pub walk_none : (bs : List ℕ) → Walk bs 0 0
-walk_none bs = record { fuel = length bs; here = refl; few = omega arith; enough = omega arith; same = refl; within = omega arith }
+walk_none bs = record { fuel = length bs; here = refl; few = omega arith; enough = omega arith; same = refl; within = omega arith; low = omega arith }
 
 -- with fuel left, the next field is judged
 next_good : (f : ℕ) (bs : List ℕ) (k : ℕ) → start bs k < length bs → k < 1022 → good_at bs (start bs k) ≡ true → checked_from (suc f) bs k ≡ checked_from f bs (suc k)
@@ -56,6 +58,7 @@ module _ {bs : List ℕ} {at k : ℕ} (w : Walk bs at k) where
         enough = omega (arith, w.enough, g.1);
         same = ap (checked_from g.0 bs) (add-one k) ∙ sym step ∙ sym (ap (λ f. checked_from f bs k) g.1) ∙ w.same;
         within = room;
+        low = leb-true (at + (3 + long (drop at bs))) 65535 (and_parts _ _ good).1;
       }
 
   pub walk_bad : at < length bs → (ltb k 1022 && good_at bs at) ≡ false → checked bs ≡ Err (fault ConditionsIllFormed at)
@@ -67,13 +70,21 @@ module _ {bs : List ℕ} {at k : ℕ} (w : Walk bs at k) where
   pub walk_all : length bs ≤ at → checked bs ≡ Ok k
   walk_all h = sym w.same ∙ all_read w.fuel bs k (subst (λ p. length bs ≤ p) w.here h)
 
-pub when_some : {A : Type 0} (b : Bool) (x y : A) → Some x ≡ when b y → (b ≡ true) × (x ≡ y)
-when_some true x y e = (refl, cc)
-when_some false x y e = let z : ◌≡◌ {A = ℕ} 0 1 = cc in absurd (omega arith)
+-- where one more field begins
+pub placed_more : (bs starts : List ℕ) (k at : ℕ) → length starts ≡ k → at ≡ start bs k → Placed bs k starts → Placed bs (k + 1) (starts ++ at ∷ [])
+placed_more bs starts k at long here placed j h =
+    ⊎_elim
+    (λ lt. get_or_append_left starts (at ∷ []) 0 j (omega arith) ∙ placed j lt)
+    (λ ge. let e : j ≡ length starts = omega arith in ap (λ i. get_or (starts ++ at ∷ []) i 0) e ∙ get_or-append_seam starts at [] 0 ∙ here ∙ ap (start bs) (sym long ∙ sym e))
+    (cases_lt j k)
 
-pub when_none : {A : Type 0} (b : Bool) (y : A) → None ≡ when b y → b ≡ false
-when_none true y e = let z : ◌≡◌ {A = ℕ} 0 1 = cc in absurd (omega arith)
-when_none false y e = refl
+pub next_ok : (b : Bool) (x y : ℕ) (e : Fault) → Ok x ≡ cond b (Ok y) (Err e) → (b ≡ true) × (x ≡ y)
+next_ok true x y e k = (refl, cc)
+next_ok false x y e k = absurd cc
+
+pub next_err : (b : Bool) (x e : Fault) (y : ℕ) → Err x ≡ cond b (Ok y) (Err e) → (b ≡ false) × (x ≡ e)
+next_err true x e y k = absurd cc
+next_err false x e y k = (refl, cc)
 
 -- what a field's test says
 pub record Whole (fs : List ℕ) : Type 0 where
@@ -106,10 +117,6 @@ good_whole bs p e = whole (drop p bs) (and_parts _ _ e).0
 pub good_room : (bs : List ℕ) (p : ℕ) → good_at bs p ≡ true → p + (3 + long (drop p bs)) ≤ length bs
 good_room bs p e = omega (arith, (good_whole bs p e).room, length-drop p bs)
 
--- the stated length, as the book has it
-pub long_at : (bs : List ℕ) (p : ℕ) → long (drop p bs) ≡ 256 * get_or bs (p + 1) 0 + get_or bs (p + 2) 0
-long_at bs p = (λ i. 256 * get_or-drop p bs 1 0 i + get_or-drop p bs 2 0 i)
-
 by_cond : {A : Type 0} (b : Bool) (x y z : A) → cond b x y ≡ z → ((b ≡ true) × (x ≡ z)) ⊎ ((b ≡ false) × (y ≡ z))
 by_cond true x y z e = inl (refl, e)
 by_cond false x y z e = inr (refl, e)
@@ -118,7 +125,7 @@ same_ok : (k m : ℕ) → ◌≡◌ {A = Result ℕ Fault} (Ok k) (Ok m) → k �
 same_ok k m e = cc
 
 not_ok : (p : Fault) (m : ℕ) → ◌≡◌ {A = Result ℕ Fault} (Err p) (Ok m) → ⊥
-not_ok p m e = let z : ◌≡◌ {A = ℕ} 0 1 = cc in omega arith
+not_ok p m e = cc
 
 formed_more : (bs : List ℕ) (k : ℕ) → k < 1022 → Formed bs k → good_at bs (start bs k) ≡ true → Formed bs (suc k)
 formed_more bs k few formed good =
@@ -142,32 +149,23 @@ pub checked_formed : (bs : List ℕ) (k : ℕ) → checked bs ≡ Ok k → Forme
 checked_formed bs k e = from_formed (length bs) bs 0 k (formed_none bs) e
 
 -- an ill-formed book has no conditions of its own
-opened_formed : (bs : List ℕ) (r : Result ℕ Fault) → checked bs ≡ r → Formed bs (result_unwrap_or r 0)
-opened_formed bs (Ok k) e = checked_formed bs k e
-opened_formed bs (Err p) e = formed_none bs
+pub opened : (bs : List ℕ) (r : Result (ArrayVec ℕ) Fault) (none starts : ArrayVec ℕ) → MatchResult r (λ s. checked bs ≡ Ok (array_vec_len s)) (λ e. checked bs ≡ Err e) → IfOk r (λ s. Placed bs (array_vec_len s) s.items) → none.items ≡ [] → starts ≡ result_unwrap_or r none → Formed bs (array_vec_len starts) × Placed bs (array_vec_len starts) starts.items
+opened bs (Ok s) none starts is placed empty e =
+    subst (λ x. Formed bs (array_vec_len x) × Placed bs (array_vec_len x) x.items) (sym e) (checked_formed bs (array_vec_len s) is, placed)
+opened bs (Err fault) none starts is placed empty e =
+    let zero : array_vec_len starts ≡ 0 = ap array_vec_len e ∙ ap length empty in
+    (subst (Formed bs) (sym zero) (formed_none bs), λ j h. absurd (omega (arith, zero)))
 
-pub opened : (bs : List ℕ) {count : ℕ} → count ≡ result_unwrap_or (checked bs) 0 → Formed bs count
-opened bs e = subst (Formed bs) (sym e) (opened_formed bs (checked bs) refl)
-
-pub good_head : (bs : List ℕ) (m k p : ℕ) → Formed bs m → k < m → p ≡ start bs k → p + 3 ≤ length bs
-good_head bs m k p formed h e = omega (arith, good_room bs (start bs k) (formed.1 k h), e)
-
-pub good_part : (bs : List ℕ) (m k p n : ℕ) → Formed bs m → k < m → p ≡ start bs k → n ≡ long (drop p bs) → p + 3 + n ≤ length bs
-good_part bs m k p n formed h e is = omega (arith, good_room bs (start bs k) (formed.1 k h), e, is ∙ ap (λ q. long (drop q bs)) e)
-
-pub start_more : (bs : List ℕ) (k p n : ℕ) → p ≡ start bs k → n ≡ long (drop p bs) → p + (3 + n) ≡ start bs (k + 1)
-start_more bs k p n e is = ap (λ m. p + (3 + m)) is ∙ ap (λ q. q + (3 + long (drop q bs))) e ∙ sym (ap (start bs) (add-one k))
-
-pub part_body : (bs : List ℕ) (k p n : ℕ) → p ≡ start bs k → n ≡ long (drop p bs) → take n (drop (p + 3) bs) ≡ condition_bytes bs k
-part_body bs k p n e is = ap (λ m. take m (drop (p + 3) bs)) is ∙ ap (take (long (drop p bs))) (sym (drop-drop 3 p bs)) ∙ ap (λ q. body (drop q bs)) e
-
-pub body_spelled : (bs : List ℕ) (m k : ℕ) → Formed bs m → k < m → is_some (tree (condition_bytes bs k)) ≡ true
-body_spelled bs m k formed h = (good_whole bs (start bs k) (formed.1 k h)).spelled
+-- the bytes at a condition's place are a condition
+pub part_spelled : (bs : List ℕ) (m k p n : ℕ) → Formed bs m → k < m → p ≡ start bs k → n ≡ long (drop p bs) → is_some (tree (take n (drop (p + 3) bs))) ≡ true
+part_spelled bs m k p n formed h e is =
+    let value : take n (drop (p + 3) bs) ≡ condition_bytes bs k = ap (λ m. take m (drop (p + 3) bs)) is ∙ ap (take (long (drop p bs))) (sym (drop-drop 3 p bs)) ∙ ap (λ q. body (drop q bs)) e in
+    ap (λ l. is_some (tree l)) value ∙ (good_whole bs (start bs k) (formed.1 k h)).spelled
 
 -- ---- the tests are the rules
 
 some_tree : (o : Option Tree) → is_some o ≡ true → (t : Tree) × (o ≡ Some t)
-some_tree None e = absurd (let z : ◌≡◌ {A = ℕ} 0 1 = cc in omega arith)
+some_tree None e = absurd cc
 some_tree (Some t) e = (t, refl)
 
 bytes_drop : (p : ℕ) (bs : List ℕ) → Bytes bs → Bytes (drop p bs)
@@ -228,16 +226,12 @@ judged_from (suc f) bs k bytes formed h enough =
     (λ e. (omega (arith, leb-true (length bs) (start bs k) e), formed_rules bs k bytes formed))
     (λ e. cond_both (test bs k) (checked_from f bs (suc k)) (Err (fault ConditionsIllFormed (start bs k))) P
     (λ g. let both = and_parts _ _ g in judged_from f bs (suc k) bytes (formed_more bs k (ltb-true k 1022 both.0) formed both.1) (good_room bs (start bs k) both.1) (omega arith))
-    (λ g. (k, refl, leb-false (length bs) (start bs k) e, formed_rules bs k bytes formed, λ r. let e1 = rules_test bs k r in let z : ◌≡◌ {A = ℕ} 0 1 = cc in omega arith)))
+    (λ g. (k, refl, leb-false (length bs) (start bs k) e, formed_rules bs k bytes formed, λ r. let e1 = rules_test bs k r in cc)))
 
 pub judged : (bs : List ℕ) → Bytes bs → Judged bs (checked bs)
 judged bs bytes = judged_from (length bs) bs 0 bytes (formed_none bs) (omega arith) (omega arith)
 
--- ---- where the conditions begin
-
--- the k-th field begins early enough for two bytes to tell where
-pub start_low : (bs : List ℕ) (m k p : ℕ) → Formed bs m → k < m → p ≡ start bs k → p < 65536
-start_low bs m k p formed h e = omega (arith, leb-true (start bs k + (3 + long (drop (start bs k) bs))) 65535 (and_parts _ _ (formed.1 k h)).1, e)
+-- ---- what a condition says
 
 pub meant : Meant
 meant bs count n t s low high spells =

@@ -1,16 +1,14 @@
 -- How the tree of a condition's bytes is found item by item, and its value beside it. Assumes nothing.
-use Rattle.std.proofs.Common.{◌≡◌, ℕ, zero, suc, ◌+◌, ◌-◌, ◌<◌, ◌≤◌, Bool, true, false, eqb, List, [], ◌∷◌, length, get_or, drop, set, is_some, Some, None, Option, sym, refl, ap, ◌∙◌, subst, arith, length-drop, length-set, get_or-set_other, get_or-set_same, drop-drop}
-use Rattle.std.proofs.lemmas.List.{drop_all}
-use Rattle.std.proofs.lemmas.Bool.{ne_eqb}
+use Rattle.std.proofs.Common.{◌≡◌, ℕ, zero, suc, ◌+◌, ◌<◌, ◌≤◌, true, false, ◌&&◌, eqb, List, [], ◌∷◌, ◌++◌, length, drop, is_some, Some, None, Option, sym, refl, ap, ◌∙◌, subst, arith}
+use Rattle.std.proofs.lemmas.Bool.{eqb-true, ne_eqb}
+use Rattle.std.proofs.lemmas.Grind.{common_steps}
 use Rattle.books.specs.declared.item.Item.{Item}
 use Rattle.books.specs.declared.item.Item.TheVariants.{Range, Group, And, Or, Not}
-use Rattle.books.specs.declared.stack.Stack.{Stack}
 use Rattle.states.specs.declared.state.State.{State}
 use Rattle.conditions.specs.declared.truth.Truth.{Truth}
-use Rattle.conditions.specs.declared.truth.Truth.TheVariants.{Unknown}
-use Rattle.books.specs.Items.{item_at, operands, after, Suits}
-use Rattle.books.specs.Stacks.{applied}
-use Rattle.books.specs.Trees.{Tree, range, group, both, either, negated, meaning}
+use Rattle.books.specs.Items.{item_at, operands, after, Suits, Reads}
+use Rattle.books.specs.Stacks.{top, replaced, applied}
+use Rattle.books.specs.Trees.{Tree, meaning}
 use Rattle.books.specs.Readings.{grown, sole, tree_from, tree, truth_of}
 use Rattle.conditions.specs.Truths.{conj, disj, neg}
 
@@ -55,71 +53,73 @@ sole_one [] = refl
 sole_one (t ∷ []) = refl
 sole_one (t ∷ u ∷ ts) = sym (ne_eqb (length (t ∷ u ∷ ts)) 1 (λ e. omega arith))
 
--- the bytes before `at` are read, and the trees ts wait
-pub record Read (bytes : List ℕ) (at waiting : ℕ) : Type 0 where
+-- xs is left of the bytes, and the trees ts wait
+pub record Read (bytes xs : List ℕ) (waiting : ℕ) : Type 0 where
   pub ts : List Tree
-  pub within : at ≤ length bytes
   pub long : waiting ≡ length ts
-  pub same : tree_from 0 ts (drop at bytes) ≡ tree bytes
+  pub same : tree_from 0 ts xs ≡ tree bytes
 
-pub read_none : (bytes : List ℕ) → Read bytes 0 0
-read_none bytes = record { ts = []; within = omega arith; long = refl; same = refl }
+pub read_more : {bytes xs ys : List ℕ} {w v : ℕ} {i : Item} → Read bytes xs w → Reads xs w (Some i) ys v → Read bytes ys v
+read_more {bytes} {xs} {ys} {w} {v} {i} r step = record {
+  ts = grown i r.ts;
+  long = step.4 ∙ ap (after i) r.long ∙ sym (length_grown i r.ts (subst (Suits i) r.long step.1));
+  same = let one : 1 + operands i ≡ suc (operands i) = omega arith in
+      ap (tree_from 0 (grown i r.ts)) (step.3 ∙ ap (λ k. drop k xs) one) ∙ sym (tree_item r.ts xs i (ap (item_at xs) (sym r.long) ∙ step.0) step.2) ∙ r.same;
+}
 
--- ys is what is left of the bytes, as the code has it
-module _ {bytes : List ℕ} {at waiting : ℕ} (r : Read bytes at waiting) (ys : List ℕ) (left : ys ≡ drop at bytes) where
-  pub read_more : (i : Item) → item_at ys waiting ≡ Some i → Suits i waiting → operands i < length ys → Read bytes (at + (1 + operands i)) (after i waiting)
-  read_more i e suits h = record {
-    ts = grown i r.ts;
-    within = omega (arith, length-drop at bytes, ap length left);
-    long = ap (after i) r.long ∙ sym (length_grown i r.ts (subst (Suits i) r.long suits));
-    same = let next = tree_item r.ts ys i (ap (item_at ys) (sym r.long) ∙ e) h in
-        let there : drop (at + (1 + operands i)) bytes ≡ drop (suc (operands i)) (drop at bytes) = ap (λ k. drop k bytes) (omega arith) ∙ sym (drop-drop (suc (operands i)) at bytes) in
-        ap (tree_from 0 (grown i r.ts)) (there ∙ ap (drop (suc (operands i))) (sym left)) ∙ sym next ∙ ap (tree_from 0 r.ts) left ∙ r.same;
-  }
+pub read_on : {bytes xs ys : List ℕ} {w v : ℕ} (r : Option Item) → Read bytes xs w → Reads xs w r ys v → is_some r ≡ true → Read bytes ys v
+read_on None k step e = absurd cc
+read_on (Some i) k step e = read_more k step
 
-  pub read_bad : at < length bytes → item_at ys waiting ≡ None → tree bytes ≡ None
-  read_bad h e = sym r.same ∙ ap (tree_from 0 r.ts) (sym left) ∙ tree_none r.ts ys (omega (arith, length-drop at bytes, ap length left)) (ap (item_at ys) (sym r.long) ∙ e)
+read_bad : {bytes xs : List ℕ} {w : ℕ} → Read bytes xs w → 0 < length xs → item_at xs w ≡ None → tree bytes ≡ None
+read_bad {bytes} {xs} k h e = sym k.same ∙ tree_none k.ts xs h (ap (item_at xs) (sym k.long) ∙ e)
 
-module _ {bytes : List ℕ} {at waiting : ℕ} (r : Read bytes at waiting) where
-  pub read_all : length bytes ≤ at → tree bytes ≡ sole r.ts
-  read_all h = sym r.same ∙ ap (tree_from 0 r.ts) (drop_all at bytes h)
+-- where no more items come, the bytes spell a condition if all are read and just one tree waits
+ended : {bytes : List ℕ} (xs : List ℕ) {w : ℕ} → Read bytes xs w → item_at xs w ≡ None → (eqb (length xs) 0 && eqb w 1) ≡ is_some (tree bytes)
+ended [] k e = ap (λ n. eqb n 1) k.long ∙ sym (sole_one k.ts) ∙ ap is_some k.same
+ended (x ∷ xs) {w} k e =
+    let more : eqb (length (x ∷ xs)) 0 ≡ false = ne_eqb (length (x ∷ xs)) 0 (λ h. omega arith) in
+    ap (λ b. b && eqb w 1) more ∙ sym (ap is_some (read_bad k (omega arith) e))
 
--- the pile holds the values of the trees that wait, the last on top
-abbrev pub Holds : State → List Tree → List Truth → Type 0
-Holds s [] xs = Unit {0}
-Holds s (t ∷ ts) xs = (get_or xs (length ts) Unknown ≡ meaning t s) × Holds s ts xs
+pub read_ended : {bytes xs : List ℕ} {w : ℕ} (ys : List ℕ) (v : ℕ) (r : Option Item) → Read bytes xs w → Reads xs w r ys v → is_some r ≡ false → (eqb (length ys) 0 && eqb v 1) ≡ is_some (tree bytes)
+read_ended {xs = xs} ys v None k step e = (λ i. eqb (length (step.1 i)) 0 && eqb (step.2 i) 1) ∙ ended xs k step.0
+read_ended ys v (Some i) k step e = absurd cc
 
-holds_set : (s : State) (ts : List Tree) (xs : List Truth) (j : ℕ) (x : Truth) → length ts ≤ j → Holds s ts xs → Holds s ts (set xs j x)
-holds_set s [] xs j x h k = tt
-holds_set s (t ∷ ts) xs j x h k = (get_or-set_other xs j (length ts) x Unknown (λ e. omega arith) ∙ k.0, holds_set s ts xs j x (omega arith) k.1)
+-- the values of the trees that wait, the last on top
+abbrev pub values : State → List Tree → List Truth
+values s [] = []
+values s (t ∷ ts) = values s ts ++ meaning t s ∷ []
 
--- a new value on top
-holds_push : (s : State) (ts : List Tree) (t : Tree) (xs : List Truth) (j : ℕ) (x : Truth) → length ts ≡ j → j < length xs → x ≡ meaning t s → Holds s ts xs → Holds s (t ∷ ts) (set xs j x)
-holds_push s ts t xs j x e h is k =
-    (ap (λ i. get_or (set xs j x) i Unknown) e ∙ get_or-set_same xs j x Unknown h ∙ is, holds_set s ts xs j x (omega arith) k)
+pub length_values : (s : State) (ts : List Tree) → length (values s ts) ≡ length ts
+length_values s [] = refl
+length_values s (t ∷ ts) = grind (arith, common_steps, length_values s ts)
 
-at_place : (xs : List Truth) (i j : ℕ) → i ≡ j → get_or xs i Unknown ≡ get_or xs j Unknown
-at_place xs i j e = ap (λ k. get_or xs k Unknown) e
+top_one : (ys : List Truth) (b : Truth) → top (ys ++ b ∷ []) 1 ≡ b
+top_one ys b = grind (arith, common_steps)
 
-pub holds_more : (s : State) (i : Item) (ts : List Tree) (p : Stack) → p.waiting ≡ length ts → p.waiting ≤ 8 → length p.values ≡ 8 → Suits i p.waiting → Holds s ts p.values → Holds s (grown i ts) (applied i s p).values
-holds_more s (Range v lo hi) ts p w le long suits k = holds_push s ts (range v lo hi) p.values _ _ (omega arith) (omega arith) refl k
-holds_more s (Group n) ts p w le long suits k = holds_push s ts (group n) p.values _ _ (omega arith) (omega arith) refl k
-holds_more s And [] p w le long suits k = absurd (omega arith)
-holds_more s And (b ∷ []) p w le long suits k = absurd (omega arith)
-holds_more s And (b ∷ a ∷ ts) p w le long suits k =
-    let x = at_place p.values (p.waiting - 2) (length ts) (omega arith) ∙ k.1.0 in
-    let y = at_place p.values (p.waiting - 1) (length (a ∷ ts)) (omega arith) ∙ k.0 in
-    holds_push s ts (both a b) p.values _ _ (omega arith) (omega arith) (λ i. conj (x i) (y i)) k.1.1
-holds_more s Or [] p w le long suits k = absurd (omega arith)
-holds_more s Or (b ∷ []) p w le long suits k = absurd (omega arith)
-holds_more s Or (b ∷ a ∷ ts) p w le long suits k =
-    let x = at_place p.values (p.waiting - 2) (length ts) (omega arith) ∙ k.1.0 in
-    let y = at_place p.values (p.waiting - 1) (length (a ∷ ts)) (omega arith) ∙ k.0 in
-    holds_push s ts (either a b) p.values _ _ (omega arith) (omega arith) (λ i. disj (x i) (y i)) k.1.1
-holds_more s Not [] p w le long suits k = absurd (omega arith)
-holds_more s Not (a ∷ ts) p w le long suits k =
-    let x = at_place p.values (p.waiting - 1) (length ts) (omega arith) ∙ k.0 in
-    holds_push s ts (negated a) p.values _ _ (omega arith) (omega arith) (ap neg x) k.1
+top_two : (ys : List Truth) (a b : Truth) → top ((ys ++ a ∷ []) ++ b ∷ []) 2 ≡ a
+top_two ys a b = grind (arith, common_steps)
+
+below_one : (ys : List Truth) (b t : Truth) → replaced (ys ++ b ∷ []) 1 t ≡ ys ++ t ∷ []
+below_one ys b t = grind (arith, common_steps)
+
+below_two : (ys : List Truth) (a b t : Truth) → replaced ((ys ++ a ∷ []) ++ b ∷ []) 2 t ≡ ys ++ t ∷ []
+below_two ys a b t = grind (arith, common_steps)
+
+below_none : (ys : List Truth) (t : Truth) → replaced ys 0 t ≡ ys ++ t ∷ []
+below_none ys t = grind (arith, common_steps)
+
+pub values_grown : (s : State) (i : Item) (ts : List Tree) → Suits i (length ts) → applied i s (values s ts) ≡ values s (grown i ts)
+values_grown s (Range v lo hi) ts h = below_none _ _
+values_grown s (Group n) ts h = below_none _ _
+values_grown s And [] h = absurd (omega arith)
+values_grown s And (b ∷ []) h = absurd (omega arith)
+values_grown s And (b ∷ a ∷ ts) h = below_two (values s ts) _ _ _ ∙ (λ i. values s ts ++ conj (top_two (values s ts) (meaning a s) (meaning b s) i) (top_one (values s (a ∷ ts)) (meaning b s) i) ∷ [])
+values_grown s Or [] h = absurd (omega arith)
+values_grown s Or (b ∷ []) h = absurd (omega arith)
+values_grown s Or (b ∷ a ∷ ts) h = below_two (values s ts) _ _ _ ∙ (λ i. values s ts ++ disj (top_two (values s ts) (meaning a s) (meaning b s) i) (top_one (values s (a ∷ ts)) (meaning b s) i) ∷ [])
+values_grown s Not [] h = absurd (omega arith)
+values_grown s Not (a ∷ ts) h = below_one (values s ts) _ _ ∙ ap (λ t. values s ts ++ neg t ∷ []) (top_one (values s ts) (meaning a s))
 
 after_le : (i : Item) (w : ℕ) → Suits i w → w ≤ 8 → after i w ≤ 8
 after_le (Range v lo hi) w h k = omega arith
@@ -128,32 +128,46 @@ after_le And w h k = omega arith
 after_le Or w h k = omega arith
 after_le Not w h k = omega arith
 
-pub record Worked (bytes : List ℕ) (s : State) (at : ℕ) (p : Stack) : Type 0 where
-  pub read : Read bytes at p.waiting
-  pub few : p.waiting ≤ 8
-  pub long : length p.values ≡ 8
-  pub holds : Holds s read.ts p.values
+-- xs is left of the bytes, and the stack holds the values of the trees that wait
+pub record Worked (bytes : List ℕ) (s : State) (xs : List ℕ) (waiting : ℕ) (stack : List Truth) : Type 0 where
+  pub read : Read bytes xs waiting
+  pub few : waiting ≤ 8
+  pub holds : stack ≡ values s read.ts
 
-module _ {bytes : List ℕ} {s : State} {at : ℕ} {p : Stack} (k : Worked bytes s at p) (ys : List ℕ) (left : ys ≡ drop at bytes) where
-  pub worked_more : (i : Item) → item_at ys p.waiting ≡ Some i → Suits i p.waiting → operands i < length ys → Worked bytes s (at + (1 + operands i)) (applied i s p)
+pub worked_none : {bytes xs : List ℕ} {w : ℕ} {stack : List Truth} (s : State) → xs ≡ bytes → w ≡ 0 → stack ≡ [] → Worked bytes s xs w stack
+worked_none s rest waiting none = record { read = record { ts = []; long = waiting; same = ap (tree_from 0 []) rest }; few = omega (arith, waiting); holds = none }
+
+-- as many values wait as the items say
+worked_long : {bytes xs : List ℕ} {s : State} {w : ℕ} {stack : List Truth} → Worked bytes s xs w stack → w ≡ length stack
+worked_long {s = s} k = k.read.long ∙ sym (length_values s k.read.ts) ∙ sym (ap length k.holds)
+
+module _ {bytes xs : List ℕ} {s : State} {w : ℕ} {stack : List Truth} (k : Worked bytes s xs w stack) where
+  pub worked_suits : (i : Item) → Suits i w → Suits i (length stack) × (length stack ≤ 8)
+  worked_suits i suits = (subst (Suits i) (worked_long k) suits, subst (λ n. n ≤ 8) (worked_long k) k.few)
+
+  pub worked_more : {ys : List ℕ} {v : ℕ} {i : Item} → Reads xs w (Some i) ys v → Worked bytes s ys v (applied i s stack)
   unfolding read_more
-  worked_more i e suits h = record {
-    read = read_more k.read ys left i e suits h;
-    few = after_le i p.waiting suits k.few;
-    long = length-set p.values _ _ ∙ k.long;
-    holds = holds_more s i k.read.ts p k.read.long k.few k.long suits k.holds;
+  worked_more {i = i} step = record {
+    read = read_more k.read step;
+    few = subst (λ n. n ≤ 8) (sym step.4) (after_le i w step.1 k.few);
+    holds = ap (applied i s) k.holds ∙ values_grown s i k.read.ts (subst (Suits i) k.read.long step.1);
   }
 
-only_one : (ts : List Tree) (s : State) (xs : List Truth) → is_some (sole ts) ≡ true → Holds s ts xs → get_or xs 0 Unknown ≡ truth_of (sole ts) s
-only_one [] s xs e h = let z : ◌≡◌ {A = Bool} true false = cc in absurd (let w : ◌≡◌ {A = ℕ} 0 1 = cc in omega arith)
-only_one (t ∷ []) s xs e h = h.0
-only_one (t ∷ u ∷ ts) s xs e h = absurd (let w : ◌≡◌ {A = ℕ} 0 1 = cc in omega arith)
+-- a condition leaves one value at its end, which is what it says
+one_left : {bytes : List ℕ} (xs : List ℕ) {w : ℕ} (k : Read bytes xs w) → item_at xs w ≡ None → is_some (tree bytes) ≡ true → (length k.ts ≡ 1) × (tree bytes ≡ sole k.ts)
+one_left [] k e some = (eqb-true (length k.ts) 1 (sym (sole_one k.ts) ∙ ap is_some k.same ∙ some), sym k.same)
+one_left (x ∷ xs) k e some = let none = read_bad k (omega arith) e in absurd cc
 
-pub worked_all : {bytes : List ℕ} {s : State} {at : ℕ} {p : Stack} → Worked bytes s at p → length bytes ≤ at → is_some (tree bytes) ≡ true → get_or p.values 0 Unknown ≡ truth_of (tree bytes) s
-worked_all {bytes} {s} {at} {p} k h e =
-    let all = read_all k.read h in
-    only_one k.read.ts s p.values (sym (ap is_some all) ∙ e) k.holds ∙ sym (ap (λ o. truth_of o s) all)
+only_one : (ts : List Tree) (s : State) → length ts ≡ 1 → top (values s ts) 1 ≡ truth_of (sole ts) s
+only_one [] s e = absurd (omega arith)
+only_one (t ∷ []) s e = refl
+only_one (t ∷ u ∷ ts) s e = absurd (omega arith)
 
-pub worked_none : (bytes : List ℕ) (s : State) → Worked bytes s 0 (record { values = Unknown ∷ Unknown ∷ Unknown ∷ Unknown ∷ Unknown ∷ Unknown ∷ Unknown ∷ Unknown ∷ []; waiting = 0 })
-unfolding read_none
-worked_none bytes s = record { read = read_none bytes; few = omega arith; long = refl; holds = tt }
+module _ {bytes xs : List ℕ} {s : State} {w : ℕ} {stack : List Truth} (k : Worked bytes s xs w stack) (e : item_at xs w ≡ None) (some : is_some (tree bytes) ≡ true) where
+  pub worked_one : 1 ≤ length stack
+  worked_one = let one = one_left xs k.read e some in omega (arith, worked_long k, k.read.long)
+
+  pub worked_all : top stack 1 ≡ truth_of (tree bytes) s
+  worked_all =
+      let one = one_left xs k.read e some in
+      ap (λ ys. top ys 1) k.holds ∙ only_one k.read.ts s one.0 ∙ sym (ap (λ o. truth_of o s) one.1)

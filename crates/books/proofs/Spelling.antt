@@ -82,7 +82,7 @@ record Front (bs : List ℕ) (w : ℕ) (i : Item) : Type 0 where
 
 if_some : {A : Type 0} (b : Bool) (x y : A) → when b x ≡ Some y → (b ≡ true) × (x ≡ y)
 if_some true x y e = (refl, cc)
-if_some false x y e = let z : ◌≡◌ {A = ℕ} 0 1 = cc in absurd (omega arith)
+if_some false x y e = absurd cc
 
 choice : {A : Type 0} (b : Bool) (x y z : A) → cond b x y ≡ z → ((b ≡ true) × (x ≡ z)) ⊎ (y ≡ z)
 choice true x y z e = inl (refl, e)
@@ -128,7 +128,7 @@ front b bs w i bytes e =
     subst (Front (b ∷ bs) w) t.1 (record { is = ap (λ x. x ∷ bs) (eqb-true b 0xB4 h.0); suits = leb-true 2 w t.0; small = tt; whole = omega arith }))
     (λ e4. ⊎_elim (λ h. let t = if_some _ _ _ h.1 in
     subst (Front (b ∷ bs) w) t.1 (record { is = ap (λ x. x ∷ bs) (eqb-true b 0xB5 h.0); suits = leb-true 1 w t.0; small = tt; whole = omega arith }))
-    (λ e5. let z : ◌≡◌ {A = ℕ} 0 1 = cc in absurd (omega arith))
+    (λ e5. absurd cc)
     (choice _ _ _ _ e4)) (choice _ _ _ _ e3)) (choice _ _ _ _ e2)) (choice _ _ _ _ e1)) (choice _ _ _ _ e)
 
 -- the bytes of the trees that wait, the first at the bottom
@@ -167,13 +167,13 @@ spells_grown Not (a ∷ ts) suits = simp append_assoc
 
 ended : (ts : List Tree) (t : Tree) → Fits ts → sole ts ≡ Some t → Spells t (spells ts)
 unfolding spells
-ended [] t fits e = let z : ◌≡◌ {A = ℕ} 0 1 = cc in absurd (omega arith)
+ended [] t fits e = absurd cc
 ended (u ∷ []) t fits e = let same : u ≡ t = cc in subst (λ x. Spells x (spell u)) same (refl, fits.1, omega (arith, fits.0))
-ended (u ∷ x ∷ ts) t fits e = let z : ◌≡◌ {A = ℕ} 0 1 = cc in absurd (omega arith)
+ended (u ∷ x ∷ ts) t fits e = absurd cc
 
 next_item : (ts : List Tree) (b : ℕ) (bs : List ℕ) (t : Tree) (o : Option Item) → item_at (b ∷ bs) (length ts) ≡ o → then_item ts bs o ≡ Some t → (i : Item) × (item_at (b ∷ bs) (length ts) ≡ Some i) × (tree_from (operands i) (grown i ts) bs ≡ Some t)
 unfolding then_item
-next_item ts b bs t None is e = let z : ◌≡◌ {A = ℕ} 0 1 = cc in absurd (omega arith)
+next_item ts b bs t None is e = absurd cc
 next_item ts b bs t (Some i) is e = (i, is, e)
 
 from_found : (k : ℕ) (ts : List Tree) (bs : List ℕ) (t : Tree) → k ≤ length bs → Bytes bs → Fits ts → tree_from k ts bs ≡ Some t → Spells t (spells ts ++ drop k bs)

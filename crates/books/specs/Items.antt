@@ -1,5 +1,5 @@
 -- The items of a condition's bytes: which there are, and what stands at the front of some bytes.
-use Rattle.std.specs.Prelude.{ℕ, ◌+◌, ◌-◌, ◌*◌, ◌<◌, ◌≤◌, Bool, cond, ◌&&◌, List, length, Some, None, Option, ◌==◌, nat_le, nat_lt, slice_index}
+use Rattle.std.specs.Prelude.{◌≡◌, ℕ, ◌+◌, ◌-◌, ◌*◌, ◌<◌, ◌≤◌, Bool, cond, ◌&&◌, List, length, drop, Some, None, Option, MatchOption, ◌==◌, nat_le, nat_lt, slice_index}
 use Rattle.books.specs.declared.item.Item.{Item}
 use Rattle.books.specs.declared.item.Item.TheVariants.{Range, Group, And, Or, Not}
 
@@ -47,3 +47,9 @@ item_at xs w =
     (cond (slice_index xs 0 == 0xB3) (when (nat_le 2 w) And)
     (cond (slice_index xs 0 == 0xB4) (when (nat_le 2 w) Or)
     (cond (slice_index xs 0 == 0xB5) (when (nat_le 1 w) Not) None))))
+
+-- the item r was read from the front of xs, where w values wait, and then ys is left and v values wait; without an item nothing was read
+abbrev pub Reads : List ℕ → ℕ → Option Item → List ℕ → ℕ → Type 0
+Reads xs w r ys v =
+    MatchOption r ((item_at xs w ≡ None) × (ys ≡ xs) × (v ≡ w))
+    (λ i. (item_at xs w ≡ Some i) × Suits i w × (operands i < length xs) × (ys ≡ drop (1 + operands i) xs) × (v ≡ after i w))

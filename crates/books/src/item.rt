@@ -1,8 +1,13 @@
 //! The items of a condition, in postfix order.
-ghost use Rattle.std.specs.Prelude.{◌≡◌, ◌+◌, ◌<◌, length, IfSome};
+ghost use Rattle.std.specs.Prelude.{◌≡◌, ◌+◌, ◌*◌, ◌<◌, length, IfSome};
 ghost use Rattle.books.specs.Items.{item_at, operands, Suits, after};
 
-use crate::part::wide;
+/// A number of two bytes, the high one first.
+pub(crate) fn wide(high: u8, low: u8) -> u16
+    ensures { result ≡ 256 * high + low }
+{
+    u16::from_be_bytes([high, low])
+}
 
 /// One item: a test, which adds a value to those that wait, or a connective, which joins them.
 #[derive(Clone, Copy, Debug, PartialEq)]

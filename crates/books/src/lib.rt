@@ -6,5 +6,4 @@ pub mod field;
 mod formula;
 mod item;
 pub mod open;
-mod part;
 mod stack;

@@ -2,15 +2,17 @@
 ghost use Rattle.std.specs.Prelude.{◌≡◌, ◌+◌, ◌-◌, ◌≤◌, true, [], ◌∷◌, length, take, drop, is_some, IfSome};
 ghost use Rattle.std.specs.Option.{option_map};
 ghost use Rattle.std.specs.Result.{result_unwrap_or};
+ghost use Rattle.arrayvec.specs.ArrayVec.{array_vec_len};
 ghost use Rattle.books.specs.Readings.{tree};
 ghost use Rattle.books.specs.Books.{Formed, Placed, start, long, checked, condition_of, book_says, Meant};
 ghost use Rattle.books.specs.BookLaws.{book_lawful};
 ghost use Rattle.books.specs.Windows.{office_hours, Window};
 
 use crate::book::Book;
-use crate::field::check;
+use crate::field::starts_of;
 use crate::formula::truth_of;
-use crate::part::{part, wide};
+use crate::item::wide;
+use arrayvec::ArrayVec;
 use conditions::language::Language;
 use conditions::truth::Truth;
 use states::state::State;
@@ -23,86 +25,58 @@ fn stated_len(bytes: &[u8], at: usize) -> usize
     wide(bytes[at + 1], bytes[at + 2]) as usize
 }
 
-/// How many conditions a book opens with; an ill-formed one has none of its own.
-fn own_count(bytes: &[u8]) -> u16
-    ensures { result ≡ result_unwrap_or (checked bytes.now) 0 }
-{
-    check(bytes).unwrap_or(0)
-}
-
 /// The value of the field at `at`, a part of the book itself.
 fn value_at<'a>(bytes: &'a [u8], at: usize, size: usize) -> &'a [u8]
     requires { at + 3 + size ≤ length bytes.now }
     ensures value { result.now ≡ take size (drop (at + 3) bytes.now) }
     ensures place { result.ref_ptr ≡ (bytes.entry.ref_ptr.0, bytes.entry.ref_ptr.1 + (at + 3)) }
 {
-    part(bytes, at + 3, size)
-}
-
-/// Where each of the first `count` fields begins.
-fn starts_of(bytes: &[u8], count: u16) -> [u16; 1022]
-    requires { Formed bytes.now count }
-    ensures { Placed bytes.now count result }
-{
-    let mut starts = [0u16; 1022];
-    let mut at = 0;
-    for k in 0..count as usize {
-        starts[k] = at as u16;
-        at += 3 + stated_len(bytes, at);
-    }
-    starts
+    &bytes[at + 3..at + 3 + size]
 }
 
 impl<'a> Book<'a> {
     /// Opens a book; an ill-formed one has no conditions of its own.
     pub fn open(bytes: &'a [u8]) -> Book<'a>
         ensures bytes { result.bytes ≡ bytes.entry }
-        ensures count { result.count ≡ result_unwrap_or (checked bytes.now) 0 }
+        ensures count { array_vec_len result.starts ≡ result_unwrap_or (checked bytes.now) 0 }
         ensures meant { Meant }
     {
-        let count = own_count(bytes);
-        let starts = starts_of(bytes, count);
-        Book {
-            bytes,
-            starts,
-            count,
-        }
+        let starts = starts_of(bytes).unwrap_or(ArrayVec::new());
+        Book { bytes, starts }
     }
 
     /// The bytes of condition `n`, a part of the book itself.
     pub fn condition(&self, n: u16) -> Option<&'a [u8]>
-        ensures value { option_map (λ x. x.now) result ≡ condition_of self.now.bytes.now self.now.count n }
+        ensures value { option_map (λ x. x.now) result ≡ condition_of self.now.bytes.now (array_vec_len self.now.starts) n }
         ensures place { IfSome result (λ x. x.ref_ptr ≡ (self.now.bytes.ref_ptr.0, self.now.bytes.ref_ptr.1 + (start self.now.bytes.now (n - 2) + 3))) }
         ensures formed { IfSome result (λ x. is_some (tree x.now) ≡ true) }
     {
-        if n < 2 || n - 2 >= self.count {
-            return None;
-        }
-        let at = self.starts[n as usize - 2] as usize;
+        let k = n.checked_sub(2)?;
+        let at = *self.starts.get(k as usize)? as usize;
         let size = stated_len(self.bytes, at);
         Some(value_at(self.bytes, at, size))
     }
 }
 
 impl<'a> Language for Book<'a> {
-    ghost size = { λ b. b.count + 2 };
+    ghost size = { λ b. array_vec_len b.starts + 2 };
 
-    ghost says = { λ b. book_says b.bytes.now b.count };
+    ghost says = { λ b. book_says b.bytes.now (array_vec_len b.starts) };
 
-    ghost lawful = { λ b. book_lawful b.bytes.now b.count b.formed };
+    ghost lawful = { λ b. book_lawful b.bytes.now (array_vec_len b.starts) b.formed };
 
     fn count(&self) -> u16 {
-        self.count + 2
+        self.starts.len() as u16 + 2
     }
 
     fn truth(&self, n: u16, state: &State) -> Truth {
+        // stays: a shared function for 0 and 1 would take the rest as a closure with its own clauses
         match n {
             0 => Truth::True,
             1 => Truth::False,
-            _ => match self.condition(n) {
-                Some(bytes) => truth_of(bytes, state),
-                None => Truth::Unknown,
-            },
+            _ => self
+                .condition(n)
+                .map_or(Truth::Unknown, |bytes| truth_of(bytes, state)),
         }
     }
 }

@@ -1,18 +1,18 @@
 //! The values that wait while a condition is worked out: eight at most.
-ghost use Rattle.std.specs.Prelude.{◌≡◌, ◌+◌, ◌-◌, ◌<◌, ◌≤◌};
+ghost use Rattle.std.specs.Prelude.{◌≡◌, ◌+◌, ◌-◌, ◌<◌, ◌≤◌, [], length, take};
 ghost use Rattle.books.specs.Trees.{member};
 ghost use Rattle.books.specs.Items.{Suits};
-ghost use Rattle.books.specs.Stacks.{top, replaced, applied};
+ghost use Rattle.books.specs.Stacks.{top, applied};
 
 use crate::item::Item;
+use arrayvec::ArrayVec;
 use conditions::truth::Truth;
 use states::state::{GROUPS, State};
 
-/// The first `waiting` of the values wait, the last of them on top.
-#[derive(Clone, Copy)]
+/// The values that wait, the last of them on top.
+#[derive(Drop)]
 pub(crate) struct Stack {
-    pub(crate) values: [Truth; 8],
-    pub(crate) waiting: usize,
+    values: ArrayVec<Truth, 8>,
 }
 
 /// Whether a set of groups has group `n`; unknown of an unknown set.
@@ -20,46 +20,46 @@ fn in_group(groups: Option<u16>, n: u8) -> Truth
     requires { n < 16 }
     ensures { result ≡ member groups n }
 {
-    match groups {
-        None => Truth::Unknown,
-        Some(x) if (x >> n) % 2 == 1 => Truth::True,
-        Some(_) => Truth::False,
-    }
+    Truth::from(groups.map(|x| (x >> n) % 2 == 1))
 }
 
 impl Stack {
-    /// The `k`-th value from the top.
-    fn top(&self, k: usize) -> Truth
-        requires { (1 ≤ k) × ((k ≤ self.now.waiting) × (self.now.waiting ≤ 8)) }
-        ensures { result ≡ top self.now k }
+    /// A stack on which nothing waits.
+    pub(crate) fn new() -> Stack
+        ensures { result.values.items ≡ [] }
     {
-        self.values[self.waiting - k]
+        Stack {
+            values: ArrayVec::new(),
+        }
     }
 
-    /// One value in place of the `k` on top.
-    fn replace(self, k: usize, value: Truth) -> Stack
-        requires { (k ≤ self.waiting) × (self.waiting < 8 + k) }
-        ensures { result ≡ replaced self k value }
+    /// Takes the value on top.
+    pub(crate) fn pop(&mut self) -> Truth
+        requires { 1 ≤ length self.old.values.items }
+        ensures value { result ≡ top self.old.values.items 1 }
+        ensures rest { self.new.values.items ≡ take (length self.old.values.items - 1) self.old.values.items }
     {
-        let mut values = self.values;
-        values[self.waiting - k] = value;
-        Stack {
-            values,
-            waiting: self.waiting - k + 1,
-        }
+        self.values.pop().unwrap()
     }
 
     /// The stack after one item.
-    pub(crate) fn apply(self, item: Item, state: &State) -> Stack
-        requires { (Suits item self.waiting) × (self.waiting ≤ 8) }
-        ensures { result ≡ applied item state.now self }
+    pub(crate) fn apply(&mut self, item: Item, state: &State)
+        requires { (Suits item (length self.old.values.items)) × (length self.old.values.items ≤ 8) }
+        ensures { self.new.values.items ≡ applied item state.now self.old.values.items }
     {
-        match item {
-            Item::Range(v, low, high) => self.replace(0, Truth::within(state.known(v), low, high)),
-            Item::Group(n) => self.replace(0, in_group(state.known(GROUPS), n)),
-            Item::And => self.replace(2, self.top(2).and(self.top(1))),
-            Item::Or => self.replace(2, self.top(2).or(self.top(1))),
-            Item::Not => self.replace(1, self.top(1).not()),
-        }
+        let value = match item {
+            Item::Range(v, low, high) => Truth::within(state.known(v), low, high),
+            Item::Group(n) => in_group(state.known(GROUPS), n),
+            Item::And => {
+                let second = self.pop();
+                self.pop().and(second)
+            }
+            Item::Or => {
+                let second = self.pop();
+                self.pop().or(second)
+            }
+            Item::Not => self.pop().not(),
+        };
+        self.values.push(value);
     }
 }

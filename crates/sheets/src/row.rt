@@ -1,6 +1,6 @@
 //! One row of a sheet: the "and" of five tests.
-ghost use Rattle.std.specs.Prelude.{◌≡◌};
-ghost use Rattle.sheets.specs.Rows.{hours_of, days_of, groups_of, path_of, barred_of, row_says, holds_all, in_days, other, first_bad};
+ghost use Rattle.std.specs.Prelude.{◌≡◌, cond};
+ghost use Rattle.sheets.specs.Rows.{hours_of, days_of, groups_of, path_of, barred_of, row_says, first_bad};
 
 use conditions::truth::Truth;
 use states::state::{DAY, GRANTEE, GROUPS, PATH, State, TIME};
@@ -8,7 +8,7 @@ use states::state::{DAY, GRANTEE, GROUPS, PATH, State, TIME};
 /// The six parts of a row, numbered from 1 in this order: the first and the last minute, a set of
 /// seven days, a set of 16 groups, the panel mark (1: only the trusted panel), and the person who
 /// may not receive (0: nobody is barred).
-#[derive(Clone, Copy, Debug)]
+#[derive(Clone, Copy, Debug, Default)]
 pub struct Row {
     pub from: u16,
     pub to: u16,
@@ -18,85 +18,52 @@ pub struct Row {
     pub barred: u8,
 }
 
-fn in_days(day: Option<u16>, set: u8) -> Truth
-    ensures { result ≡ in_days day set }
+/// A test of a row, which is true where it asks nothing.
+fn unless(asks_nothing: bool, said: Truth) -> Truth
+    ensures { result ≡ cond asks_nothing Truth.True said }
 {
-    match day {
-        None => Truth::Unknown,
-        Some(x) if x < 8 && (set >> x) % 2 == 1 => Truth::True,
-        Some(_) => Truth::False,
-    }
-}
-
-fn holds_all(groups: Option<u16>, set: u16) -> Truth
-    ensures { result ≡ holds_all groups set }
-{
-    match groups {
-        None => Truth::Unknown,
-        Some(x) if set & x == set => Truth::True,
-        Some(_) => Truth::False,
-    }
-}
-
-fn is_other(person: Option<u16>, barred: u8) -> Truth
-    ensures { result ≡ other person barred }
-{
-    match person {
-        None => Truth::Unknown,
-        Some(x) if x == barred as u16 => Truth::False,
-        Some(_) => Truth::True,
-    }
+    if asks_nothing { Truth::True } else { said }
 }
 
 impl Row {
     fn hours(&self, state: &State) -> Truth
         ensures { result ≡ hours_of self.now state.now }
     {
-        if self.from == 0 && self.to == 1439 {
-            Truth::True
-        } else {
-            Truth::within(state.known(TIME), self.from, self.to)
-        }
+        let within = Truth::within(state.known(TIME), self.from, self.to);
+        unless(self.from == 0 && self.to == 1439, within)
     }
 
     fn on_days(&self, state: &State) -> Truth
         ensures { result ≡ days_of self.now state.now }
     {
-        if self.days == 127 {
-            Truth::True
-        } else {
-            in_days(state.known(DAY), self.days)
-        }
+        let in_days = state
+            .known(DAY)
+            .map(|day| day < 8 && (self.days >> day) % 2 == 1);
+        unless(self.days == 127, Truth::from(in_days))
     }
 
     fn in_groups(&self, state: &State) -> Truth
         ensures { result ≡ groups_of self.now state.now }
     {
-        if self.groups == 0 {
-            Truth::True
-        } else {
-            holds_all(state.known(GROUPS), self.groups)
-        }
+        let holds_all = state
+            .known(GROUPS)
+            .map(|groups| self.groups & groups == self.groups);
+        unless(self.groups == 0, Truth::from(holds_all))
     }
 
     fn on_path(&self, state: &State) -> Truth
         ensures { result ≡ path_of self.now state.now }
     {
-        if self.path == 0 {
-            Truth::True
-        } else {
-            Truth::within(state.known(PATH), 1, 1)
-        }
+        unless(self.path == 0, Truth::within(state.known(PATH), 1, 1))
     }
 
     fn not_barred(&self, state: &State) -> Truth
         ensures { result ≡ barred_of self.now state.now }
     {
-        if self.barred == 0 {
-            Truth::True
-        } else {
-            is_other(state.known(GRANTEE), self.barred)
-        }
+        let is_other = state
+            .known(GRANTEE)
+            .map(|person| person != u16::from(self.barred));
+        unless(self.barred == 0, Truth::from(is_other))
     }
 
     /// The "and" of the five tests; one that asks nothing is true.

@@ -1,12 +1,13 @@
 //! A sheet: at most 64 rows.
 ghost use Rattle.std.specs.Prelude.{◌≤◌};
+ghost use Rattle.arrayvec.specs.ArrayVec.{array_vec_len};
 
 use crate::row::Row;
+use arrayvec::ArrayVec;
 
-/// The first `used` of the rows are the sheet's.
+/// The rows in the order in which they were added.
 #[derive(Drop)]
 pub struct Sheet {
-    pub(crate) rows: [Row; 64],
-    pub(crate) used: u16,
-    ghost few: { used ≤ 64 },
+    pub(crate) rows: ArrayVec<Row, 64>,
+    ghost few: { array_vec_len rows ≤ 64 },
 }

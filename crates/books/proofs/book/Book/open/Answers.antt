@@ -1,12 +1,10 @@
-use Rattle.std.proofs.Common.{refl}
 use Rattle.books.proofs.Fields.{opened, meant}
 use Rattle.books.proofs.book.Book.open.Goals as goal
 
-pub starts_of-starts-requires : goal.starts_of-starts-requires
-starts_of-starts-requires c = opened c.args.bytes.now c.own_count-count.ensures
-
 pub invariant_of-result : goal.invariant_of-result
-invariant_of-result c = record { formed = opened c.args.bytes.now c.own_count-count.ensures; placed = c.starts_of-starts.ensures }
+invariant_of-result c =
+    let both = opened c.args.bytes.now c.starts_of.result c.new.result c.unwrap_or-starts.result c.starts_of.ensures.is c.starts_of.ensures.placed c.new.ensures c.unwrap_or-starts.ensures in
+    record { formed = both.0; placed = both.1 }
 
-pub returns : goal.returns
-returns c = record { bytes = refl; count = c.own_count-count.ensures; meant = meant }
+pub returns-clause-meant : goal.returns-clause-meant
+returns-clause-meant c = meant
