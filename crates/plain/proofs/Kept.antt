@@ -4,12 +4,10 @@ use lib.ListN.{length-map}
 use Rattle.std.specs.Option.{option_map}
 use Rattle.faults.specs.declared.Fault.{Fault}
 use Rattle.states.specs.declared.state.State.{State}
-use Rattle.states.specs.declared.report.Report.{Report}
 use Rattle.states.specs.Reports.{state_of}
 use Rattle.states.specs.States.{kept}
 use Rattle.grants.specs.declared.Grant.{Grant}
 use Rattle.grants.specs.declared.terms.Terms.{Terms}
-use Rattle.grants.specs.declared.Mode.{Mode}
 use Rattle.grants.specs.Blank.{blank}
 use Rattle.conditions.specs.declared.truth.Truth.{Truth}
 use Rattle.conditions.specs.Truths.{is_true}

@@ -10,7 +10,6 @@ use Rattle.states.specs.Reports.{state_of}
 use Rattle.states.specs.States.{InRange, kept}
 use Rattle.grants.specs.declared.Grant.{Grant}
 use Rattle.grants.specs.declared.terms.Terms.{Terms}
-use Rattle.grants.specs.declared.Mode.{Mode}
 use Rattle.grants.specs.declared.Mode.TheVariants.{Expiring}
 use Rattle.conditions.specs.declared.truth.Truth.{Truth}
 use Rattle.conditions.specs.Laws.{Lawful}

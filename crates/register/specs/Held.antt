@@ -1,5 +1,5 @@
 -- What a register holds: the grants on record, in the order of their numbers.
-use Rattle.std.specs.Prelude.{◌≡◌, ℕ, suc, ◌<◌, Bool, cond, List, [], ◌∷◌, ◌++◌, length, take, Ok, Result}
+use Rattle.std.specs.Prelude.{◌≡◌, ℕ, suc, ◌<◌, cond, List, [], ◌∷◌, ◌++◌, length, take, Ok, Result}
 use Rattle.numbered.specs.declared.NotAdded.{NotAdded}
 use Rattle.numbered.specs.Rows.{AllBelow}
 use Rattle.grants.specs.declared.Grant.{Grant}

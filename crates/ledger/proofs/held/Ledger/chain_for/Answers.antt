@@ -24,7 +24,7 @@ returns g c =
     let o = chain_on_record (g.L.Language.size c.args.language.now) says l p h report in
     let found : c.chain_for.result ≡ named o =
     c.chain_for.ensures.is
-    ∙ (λ i. cond (is_record (c.rows-rows.ensures i)) (named (least_chain says recorded (c.rows-rows.ensures i) h (c.owner-owner.ensures i) p (c.state-state.ensures i))) None)
+    ∙ (λ i. cond (is_record (c.rows.ensures i)) (named (least_chain says recorded (c.rows.ensures i) h (c.owner-owner.ensures i) p (c.state.ensures i))) None)
     ∙ cond-true _ _ None (is_record_lem l.grants) in
     let is =
     visit_passed (draw_before p h (owner_in l h) s) _ o c.ok_or.result (c.in_ok-check_visit.ensures ∙ ap (λ k. passed (draw_before p h k s)) c.owner-owner.ensures)
