@@ -21,6 +21,9 @@ fn draw<L: Language>(
     cabinet.draw(caller, hook, report, chain)
 }
 
+// stays: what follows stands once for taking and once for leaving, since the check needs the contract of the
+// call itself to see that a slip of this very cabinet cannot come back
+
 /// Leaving is accepted on a slip of this cabinet.
 fn left<L: Language>(cabinet: &mut Cabinet<L>, slip: Slip) -> Result<(), RefusedSlip>
     requires { Home cabinet.old slip }

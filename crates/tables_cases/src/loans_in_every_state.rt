@@ -10,6 +10,9 @@ const HOOK: u8 = 31;
 
 const PERSON: u8 = 7;
 
+// stays: what follows stands once for taking and once for leaving, since the check needs the contract of the
+// call itself to see that a slip of these very loans cannot come back
+
 /// A draw whose slip is taken at once.
 fn fetch(loans: &mut Loans, hook: u8, person: u8) -> Result<(), Fault> {
     let slip = loans.draw(hook, person, 0)?;

@@ -1,6 +1,6 @@
 //! A register that is empty, full, or loses its first, a middle or its last grant.
 use grants::Grant;
-use numbered::Insertion;
+use numbered::NotAdded;
 use register::table::Register;
 use std::process::Abort;
 
@@ -43,26 +43,26 @@ fn an_empty_register_has_nothing_to_find_or_remove(rt: HostRuntime) {
 #[test]
 fn ninety_six_fit_and_no_more(rt: HostRuntime) {
     let mut register = filled(95);
-    assert_eq!(rt; register.insert(grant(96)), Insertion::Added);
+    assert_eq!(rt; register.insert(grant(96)), Ok(()));
     assert_eq!(rt; register.rows().len(), 96);
-    assert_eq!(rt; register.insert(grant(97)), Insertion::Full);
-    assert_eq!(rt; register.insert(grant(50)), Insertion::Taken);
+    assert_eq!(rt; register.insert(grant(97)), Err(NotAdded::Full));
+    assert_eq!(rt; register.insert(grant(50)), Err(NotAdded::Taken));
     assert_eq!(rt; register.find(1), Some(0));
     assert_eq!(rt; register.find(50), Some(49));
     assert_eq!(rt; register.find(96), Some(95));
     assert_eq!(rt; register.find(97), None);
     assert_eq!(rt; removed(&mut register, 96), Some(96));
-    assert_eq!(rt; register.insert(grant(97)), Insertion::Added);
+    assert_eq!(rt; register.insert(grant(97)), Ok(()));
     assert_eq!(rt; register.find(97), Some(95));
 }
 
 #[test]
 fn a_grant_goes_where_its_number_belongs(rt: HostRuntime) {
     let mut register = Register::new();
-    assert_eq!(rt; register.insert(grant(20)), Insertion::Added);
-    assert_eq!(rt; register.insert(grant(10)), Insertion::Added);
-    assert_eq!(rt; register.insert(grant(30)), Insertion::Added);
-    assert_eq!(rt; register.insert(grant(25)), Insertion::Added);
+    assert_eq!(rt; register.insert(grant(20)), Ok(()));
+    assert_eq!(rt; register.insert(grant(10)), Ok(()));
+    assert_eq!(rt; register.insert(grant(30)), Ok(()));
+    assert_eq!(rt; register.insert(grant(25)), Ok(()));
     holds(&rt, &register, &[10, 20, 25, 30]);
 }
 

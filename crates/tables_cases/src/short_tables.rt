@@ -1,5 +1,5 @@
 //! A table of three places, over a kind of row of its own.
-use numbered::{Insertion, Numbered};
+use numbered::{NotAdded, Numbered};
 use std::test::Fail;
 
 #[derive(Clone, Copy)]
@@ -26,15 +26,15 @@ fn rows_come_in_the_order_of_their_numbers(rt: HostRuntime) {
     let mut count = 0;
     assert_eq!(rt;
         numbered::insert(&mut rows, &mut count, dealt(7, 1)),
-        Insertion::Added
+        Ok(())
     );
     assert_eq!(rt;
         numbered::insert(&mut rows, &mut count, dealt(3, 2)),
-        Insertion::Added
+        Ok(())
     );
     assert_eq!(rt;
         numbered::insert(&mut rows, &mut count, dealt(5, 3)),
-        Insertion::Added
+        Ok(())
     );
     assert_eq!(rt; count, 3);
     assert_eq!(rt; numbered::find(&rows, 3), Some(0));
@@ -49,11 +49,11 @@ fn a_number_that_is_there_is_refused_before_a_full_table(rt: HostRuntime) {
     let mut count = 3;
     assert_eq!(rt;
         numbered::insert(&mut rows, &mut count, dealt(5, 9)),
-        Insertion::Taken
+        Err(NotAdded::Taken)
     );
     assert_eq!(rt;
         numbered::insert(&mut rows, &mut count, dealt(6, 9)),
-        Insertion::Full
+        Err(NotAdded::Full)
     );
     assert_eq!(rt; count, 3);
     assert_eq!(rt; rows[1].suit, 2);
@@ -66,7 +66,7 @@ fn a_count_past_the_end_means_every_place(rt: HostRuntime) -> Result<(), Fail> {
     let mut count = 9;
     assert_eq!(rt;
         numbered::insert(&mut rows, &mut count, dealt(1, 9)),
-        Insertion::Full
+        Err(NotAdded::Full)
     );
     assert_eq!(rt; count, 9);
     match numbered::remove(&mut rows, &mut count, 5) {
@@ -86,7 +86,7 @@ fn places_behind_the_count_are_not_looked_at(rt: HostRuntime) {
     assert_eq!(rt; count, 1);
     assert_eq!(rt;
         numbered::insert(&mut rows, &mut count, dealt(7, 4)),
-        Insertion::Added
+        Ok(())
     );
     assert_eq!(rt; rows[1].suit, 4);
 }
@@ -97,7 +97,7 @@ fn a_table_without_places_is_full(rt: HostRuntime) {
     let mut count = 0;
     assert_eq!(rt;
         numbered::insert(&mut rows, &mut count, dealt(1, 1)),
-        Insertion::Full
+        Err(NotAdded::Full)
     );
     assert!(rt; numbered::remove(&mut rows, &mut count, 1).is_none());
 }
