@@ -12,6 +12,7 @@ pub(crate) struct Failure {
 }
 
 /// The last 32 searches that failed with one number of steps left.
+// stays: an array with the place of the oldest, since a full memory forgets it for a newer one.
 #[derive(Clone, Copy)]
 pub(crate) struct Failures {
     pub noted: [Failure; 32],

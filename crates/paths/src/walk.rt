@@ -12,6 +12,7 @@ use places::{Places, meet};
 /// The first way of just `path.len()` steps from `at` to the target, into `path`. `from` has the
 /// places that `at` gave, and `allowed` those that are left to the way. `memory` has the searches
 /// that failed before, one level for each number of steps left.
+// stays: path and memory apart, since the path is the answer and is copied out whole, and the memory is not.
 pub(crate) fn walk(
     net: &Net,
     at: u8,
