@@ -25,18 +25,18 @@ struct Links {
 }
 
 #[derive(Clone, Copy)]
-struct Failure {
+struct Search {
     person: u8,
     allowed: u128,
 }
 
 #[derive(Clone, Copy)]
 struct Failures {
-    noted: [Failure; KEPT],
+    noted: [Search; KEPT],
     next: usize,
 }
 
-const FRESH: Failures = Failures { noted: [Failure { person: 0, allowed: 0 }; KEPT], next: 0 };
+const FRESH: Failures = Failures { noted: [Search { person: 0, allowed: 0 }; KEPT], next: 0 };
 
 #[derive(Clone, Copy)]
 struct Step {
@@ -124,7 +124,7 @@ impl Net<'_> {
         }
         let f = &mut memory[0];
         let j = f.next % KEPT;
-        (f.noted[j], f.next) = (Failure { person: at, allowed }, j + 1);
+        (f.noted[j], f.next) = (Search { person: at, allowed }, j + 1);
         false
     }
 }

@@ -1,5 +1,5 @@
 //! Tests of a given chain, the newest grant first.
-ghost use Rattle.std.specs.Prelude.{◌≡◌, ℕ, not, List, Decides, ◌==◌};
+ghost use Rattle.std.specs.Prelude.{◌≡◌, ℕ, not, ◌&&◌, List, Decides, ◌==◌};
 ghost use Rattle.grants.specs.declared.Grant.{Grant};
 ghost use Rattle.chains.specs.Lists.{every};
 ghost use Rattle.chains.specs.Chains.{Serves, Supports};
@@ -31,7 +31,8 @@ impl Which {
     }
 }
 
-/// A draw: from the hook of the owner, by the person, in the state.
+/// A draw: from the hook of the owner, by the person, in the state. A grant is judged as a draw by
+/// its grantor in its own state.
 #[derive(Clone, Copy)]
 pub struct Draw {
     pub hook: u8,
@@ -74,47 +75,43 @@ fn all_true<L: Language>(language: &L, chain: &[Grant], which: Which, state: &St
 }
 
 /// Whether the grant may follow the chain.
-fn may_follow<L: Language>(
-    language: &L,
-    chain: &[Grant],
-    grant: &Grant,
-    hook: u8,
-    owner: u8,
-) -> bool
-    ensures { result ≡ follows (L.Language.says language.now) recorded hook owner chain.now grant.now }
+fn may_follow<L: Language>(language: &L, chain: &[Grant], grant: &Grant, draw: &Draw) -> bool
+    ensures { result ≡ follows (L.Language.says language.now) recorded draw.now.hook draw.now.owner chain.now grant.now }
 {
-    grant.hook == hook
-        && grant.grantor == end_of(chain, owner)
-        && grant.grantee != owner
+    grant.hook == draw.hook
+        && grant.grantor == end_of(chain, draw.owner)
+        && grant.grantee != draw.owner
         && is_new_to(chain, grant.grantee)
         && all_true(language, chain, Which::Onward, &grant.state)
 }
 
 /// Whether it is a valid chain of the hook.
-fn is_valid<L: Language>(language: &L, chain: &[Grant], hook: u8, owner: u8) -> bool
-    ensures { result ≡ is_sound (L.Language.says language.now) recorded hook owner chain.now }
+fn is_valid<L: Language>(language: &L, chain: &[Grant], draw: &Draw) -> bool
+    ensures { result ≡ is_sound (L.Language.says language.now) recorded draw.now.hook draw.now.owner chain.now }
 {
     match chain {
-        [] => is_person(owner),
+        [] => is_person(draw.owner),
         [newest, before @ ..] => {
-            may_follow(language, before, newest, hook, owner)
-                && is_valid(language, before, hook, owner)
+            may_follow(language, before, newest, draw) && is_valid(language, before, draw)
         }
     }
 }
 
-/// Whether it is a valid chain of the hook to the person, of at most `most` grants.
-fn leads_to<L: Language>(
+/// Whether it is a valid chain of the hook to the person, of at most `most` grants, and that
+/// condition of each is true of the state.
+fn justifies<L: Language>(
     language: &L,
     chain: &[Grant],
-    hook: u8,
-    owner: u8,
-    person: u8,
+    draw: &Draw,
+    which: Which,
     most: usize,
 ) -> bool
-    ensures { result ≡ leads_to (L.Language.says language.now) recorded hook owner person most chain.now }
+    ensures { result ≡ (leads_to (L.Language.says language.now) recorded draw.now.hook draw.now.owner draw.now.person most chain.now && every (λ (k : Grant). is_true (L.Language.says language.now (condition_of which k) draw.now.state)) chain.now) }
 {
-    chain.len() <= most && is_valid(language, chain, hook, owner) && end_of(chain, owner) == person
+    chain.len() <= most
+        && is_valid(language, chain, draw)
+        && end_of(chain, draw.owner) == draw.person
+        && all_true(language, chain, which, &draw.state)
 }
 
 /// Whether these grants, the newest first, are a chain of at most eight that justifies the draw,
@@ -123,8 +120,7 @@ pub fn serves<L: Language>(language: &L, chain: &[Grant], draw: &Draw) -> bool
     ensures decides { (all : List Grant) → Holds all chain.now → Decides result (Serves (L.Language.says language.now) recorded all draw.now.hook draw.now.owner draw.now.person draw.now.state chain.now) }
     ensures laws { DrawLaws }
 {
-    leads_to(language, chain, draw.hook, draw.owner, draw.person, 8)
-        && all_true(language, chain, Which::Execute, &draw.state)
+    justifies(language, chain, draw, Which::Execute, 8)
 }
 
 /// Whether these grants, the newest first, are a chain of at most seven that justifies the grant,
@@ -133,6 +129,11 @@ pub fn supports<L: Language>(language: &L, chain: &[Grant], owner: u8, grant: &G
     ensures decides { (all : List Grant) → Holds all chain.now → Decides result (Supports (L.Language.says language.now) recorded all (λ _. owner) grant.now chain.now) }
     ensures laws { GrantLaws }
 {
-    leads_to(language, chain, grant.hook, owner, grant.grantor, 7)
-        && all_true(language, chain, Which::Onward, &grant.state)
+    let draw = Draw {
+        hook: grant.hook,
+        owner,
+        person: grant.grantor,
+        state: grant.state,
+    };
+    justifies(language, chain, &draw, Which::Onward, 7)
 }

@@ -11,7 +11,7 @@ use Rattle.paths.specs.Steps.{Steps, Never}
 use Rattle.std.specs.List.{HoldsAt}
 use Rattle.paths.specs.Memories.{failure, Failed, Knows, Ready}
 use Rattle.paths.specs.declared.plan.Plan.{Plan}
-use Rattle.paths.specs.declared.memory.Failure.{Failure}
+use Rattle.paths.specs.declared.memory.Search.{Search}
 use Rattle.paths.specs.declared.memory.Failures.{Failures}
 use Rattle.places.proofs.Members.{member_and, member_zero}
 
@@ -27,7 +27,7 @@ within_and a b k w i h =
     let both = and_parts (member a i) (member k i) (sym (member_and a k i) ∙ h) in
     member_and b k i ∙ and_from _ _ (w i both.0) both.1
 
-abbrev pub none : Failure
+abbrev pub none : Search
 none = record { person = 0; allowed = 0 }
 
 -- a memory that has noted nothing
@@ -35,7 +35,7 @@ abbrev pub fresh : Failures
 fresh = record { noted = replicate 32 none; next = 0 }
 
 -- a failure from p, with every place of a and perhaps more
-abbrev pub Covers : ℕ → ℕ → Failure → Type 0
+abbrev pub Covers : ℕ → ℕ → Search → Type 0
 Covers a p f = (f.person ≡ p) × (bit_and a f.allowed ≡ a)
 
 module _ (n : Plan) (t : ℕ) where
@@ -87,7 +87,7 @@ module _ (n : Plan) (t : ℕ) where
   pub knows_fresh : (k : ℕ) → Knows n t (replicate k fresh)
   knows_fresh zero = tt
   knows_fresh (suc k) = (
-    λ j lt. subst (λ (f : Failure). Never n t f.allowed f.person (suc (length (replicate k fresh)))) (sym (get_or-replicate 32 j none none lt)) (never_empty 0 _ (omega arith)),
+    λ j lt. subst (λ (f : Search). Never n t f.allowed f.person (suc (length (replicate k fresh)))) (sym (get_or-replicate 32 j none none lt)) (never_empty 0 _ (omega arith)),
     knows_fresh k,
   )
 

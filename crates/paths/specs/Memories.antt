@@ -6,11 +6,11 @@ use Rattle.paths.specs.Plans.{step}
 use Rattle.paths.specs.Steps.{Steps, Never}
 use Rattle.paths.specs.declared.plan.Plan.{Plan}
 use Rattle.paths.specs.declared.plan.Step.{Step}
-use Rattle.paths.specs.declared.memory.Failure.{Failure}
+use Rattle.paths.specs.declared.memory.Search.{Search}
 use Rattle.paths.specs.declared.memory.Failures.{Failures}
 
 -- the failure that is noted at place j
-abbrev pub failure : Failures → ℕ → Failure
+abbrev pub failure : Failures → ℕ → Search
 failure f j = slice_index_or f.noted j (record { person = 0; allowed = 0 })
 
 -- none of the noted searches finds a way of k steps

@@ -4,22 +4,23 @@ ghost use Rattle.paths.specs.Steps.{Never};
 ghost use Rattle.paths.specs.declared.plan.Plan.{Plan};
 ghost use Rattle.paths.specs.Memories.{Failed};
 
-/// A search that failed: from whom, and with which set of places.
+/// A search: from whom, and over which set of places.
 #[derive(Clone, Copy)]
-pub(crate) struct Failure {
+pub(crate) struct Search {
     pub person: u8,
     pub allowed: u128,
 }
 
 /// The last 32 searches that failed with one number of steps left.
+// stays: an array with the place of the oldest, since a full memory forgets it for a newer one.
 #[derive(Clone, Copy)]
 pub(crate) struct Failures {
-    pub noted: [Failure; 32],
+    pub noted: [Search; 32],
     pub next: usize,
 }
 
 pub(crate) const FRESH: Failures = Failures {
-    noted: [Failure {
+    noted: [Search {
         person: 0,
         allowed: 0,
     }; 32],
@@ -33,21 +34,20 @@ fn is_within(set: u128, whole: u128) -> bool
     set & whole == set
 }
 
-/// Whether a search that failed had these places, and perhaps more.
-pub(crate) fn is_known(failures: &Failures, at: u8, allowed: u128) -> bool
-    ensures { result ≡ true → (n : Plan) (t k : ℕ) → Failed n t k failures.now → Never n t allowed at k }
+/// Whether a search that failed was from the same person, over these places and perhaps more.
+pub(crate) fn is_known(failures: &Failures, search: &Search) -> bool
+    ensures { result ≡ true → (n : Plan) (t k : ℕ) → Failed n t k failures.now → Never n t search.now.allowed search.now.person k }
 {
-    failures.noted.iter().any(|failure| failure.person == at && is_within(allowed, failure.allowed))
+    failures.noted.iter().any(|failure| {
+        failure.person == search.person && is_within(search.allowed, failure.allowed)
+    })
 }
 
 /// Notes a search that failed, in the place of the oldest.
-pub(crate) fn note(failures: &mut Failures, at: u8, allowed: u128)
-    ensures { (n : Plan) (t k : ℕ) → Failed n t k failures.old → Never n t allowed at k → Failed n t k failures.new }
+pub(crate) fn note(failures: &mut Failures, search: Search)
+    ensures { (n : Plan) (t k : ℕ) → Failed n t k failures.old → Never n t search.allowed search.person k → Failed n t k failures.new }
 {
     let j = failures.next % 32;
-    failures.noted[j] = Failure {
-        person: at,
-        allowed,
-    };
+    failures.noted[j] = search;
     failures.next = j + 1;
 }

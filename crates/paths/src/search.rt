@@ -6,6 +6,7 @@ ghost use Rattle.paths.specs.Plans.{Given, Leading, step};
 ghost use Rattle.paths.specs.Memories.{Layers};
 
 use crate::links::Links;
+use crate::memory::Search;
 use crate::net::Net;
 use crate::plan::{Plan, Step};
 use crate::route::Route;
@@ -96,6 +97,10 @@ impl Plan {
     {
         let start = without(allowed, self.links.to(owner));
         let net = self.net(target, start);
-        shortest(&net, owner, self.links.by(owner), start, limit(most))
+        let search = Search {
+            person: owner,
+            allowed: start,
+        };
+        shortest(&net, search, self.links.by(owner), limit(most))
     }
 }

@@ -101,11 +101,6 @@ at_read [] i d lt = absurd (omega arith)
 at_read (g ∷ r) zero d lt = refl
 at_read (g ∷ r) (suc i) d lt = at_read r i d (omega arith)
 
-pub at_past : (r : List Grant) (i : ℕ) → length r ≤ i → at r i ≡ blank
-at_past [] i le = refl
-at_past (g ∷ r) zero le = absurd (omega arith)
-at_past (g ∷ r) (suc i) le = at_past r i (omega arith)
-
 -- each number and the next rise, or some do not
 rise_from : (n : ℕ) (x : Grant) (xs : List Grant) → n ≤ x.number → ((k : ℕ) (d : Grant) → k < length xs → (get_or (x ∷ xs) k d).number < (get_or xs k d).number)
     → rises_from number_of n (x ∷ xs) ≡ true

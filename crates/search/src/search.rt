@@ -90,7 +90,7 @@ impl Record<'_> {
     }
 
     /// Whether the grant, on record or not, stands.
-    fn supports<L: Language>(&self, language: &L, owner: u8, grant: &Grant) -> bool
+    fn stands<L: Language>(&self, language: &L, owner: u8, grant: &Grant) -> bool
         ensures { result ≡ stands_on (L.Language.says language.now) recorded self.now.grants.now (λ _. owner) grant.now }
     {
         let allowed = self.passing(language, grant.hook, Which::Onward, &grant.state);
@@ -155,7 +155,7 @@ pub fn stands<L: Language>(language: &L, grants: &[Grant], owner: u8, grant: &Gr
     ensures { result ≡ (is_record grants.now && stands_on (L.Language.says language.now) recorded grants.now (λ _. owner) grant.now) }
 {
     match Record::of(grants) {
-        Some(record) => record.supports(language, owner, grant),
+        Some(record) => record.stands(language, owner, grant),
         None => false,
     }
 }

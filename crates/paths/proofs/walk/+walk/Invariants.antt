@@ -8,6 +8,6 @@ decreases-walk l = length l.path.now
 
 abbrev pub invariant-loop-i : goal.invariant-loop-i
 invariant-loop-i l =
-    NoneBut l.net.plan.now l.net.target l.i-iterator.rest l.allowed l.at (length l.path)
+    NoneBut l.net.plan.now l.net.target l.i-iterator.rest l.search.allowed l.search.person (length l.path)
     × Knows l.net.plan.now l.net.target l.memory
     × Inside l.places l.i-iterator.rest

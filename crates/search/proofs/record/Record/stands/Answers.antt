@@ -1,6 +1,6 @@
 use Rattle.chains.specs.declared.chain.Which.TheVariants.{Onward}
 use Rattle.search.proofs.Found.{fits, stands_is}
-use Rattle.search.proofs.record.Record.supports.Goals as goal
+use Rattle.search.proofs.record.Record.stands.Goals as goal
 
 pub returns : goal.returns
 returns g c =
