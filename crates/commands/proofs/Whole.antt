@@ -112,8 +112,8 @@ tag_of_verb w (f ∷ before) l e t v h =
 
 -- the fields of a command
 falls_of : (c : Command) → Falls (fields_of c)
-falls_of (commands.Issue c h g x y m r) = ((((((((tt, lit< tt), lit< tt), lit< tt), lit< tt), lit< tt), lit< tt), lit< tt), lit< tt)
-falls_of (commands.Amend c x y m r n) = (((((((tt, lit< tt), lit< tt), lit< tt), lit< tt), lit< tt), lit< tt), lit< tt)
+falls_of (commands.Issue c h g terms) = ((((((((tt, lit< tt), lit< tt), lit< tt), lit< tt), lit< tt), lit< tt), lit< tt), lit< tt)
+falls_of (commands.Amend c n terms) = (((((((tt, lit< tt), lit< tt), lit< tt), lit< tt), lit< tt), lit< tt), lit< tt)
 falls_of (commands.Withdraw c n) = (((tt, lit< tt), lit< tt), lit< tt)
 falls_of (commands.Draw c h r o) = (((((tt, lit< tt), lit< tt), lit< tt), lit< tt), lit< tt)
 falls_of (commands.Return c h) = (((tt, lit< tt), lit< tt), lit< tt)
@@ -122,8 +122,8 @@ some_none : {X : Type 0} {x : X} → Some x ≡ None → ⊥
 some_none e = none_some (sym e)
 
 tags_in : (c : Command) → AllByRecursion (λ t. look t (fields_of c) ≡ None → ⊥) (tags_of (verb_of c))
-tags_in (commands.Issue c h g x y m r) = (some_none, (some_none, (some_none, (some_none, (some_none, (some_none, (some_none, (some_none, tt))))))))
-tags_in (commands.Amend c x y m r n) = (some_none, (some_none, (some_none, (some_none, (some_none, (some_none, (some_none, tt)))))))
+tags_in (commands.Issue c h g terms) = (some_none, (some_none, (some_none, (some_none, (some_none, (some_none, (some_none, (some_none, tt))))))))
+tags_in (commands.Amend c n terms) = (some_none, (some_none, (some_none, (some_none, (some_none, (some_none, (some_none, tt)))))))
 tags_in (commands.Withdraw c n) = (some_none, (some_none, (some_none, tt)))
 tags_in (commands.Draw c h r o) = (some_none, (some_none, (some_none, (some_none, (some_none, tt)))))
 tags_in (commands.Return c h) = (some_none, (some_none, (some_none, tt)))

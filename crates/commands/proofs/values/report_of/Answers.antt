@@ -1,4 +1,4 @@
-use Rattle.std.proofs.Common.{◌≤◌, length, ◌∙◌, arith, ltb-false}
+use Rattle.std.proofs.Common.{◌≡◌, ◌+◌, ◌*◌, ◌≤◌, length, get_or, ◌∙◌, arith, ltb-false}
 use Rattle.std.proofs.lemmas.List.{take_rest}
 use Rattle.commands.proofs.Entries.{reported_more}
 use Rattle.commands.proofs.values.report_of.Goals as goal
@@ -6,4 +6,5 @@ use Rattle.commands.proofs.values.report_of.Goals as goal
 pub loop-rest-preserved : goal.loop-rest-preserved
 loop-rest-preserved c =
     let p : 3 ≤ length c.loop-rest.rest.now = omega (arith, ltb-false) in
-    simp (c.note-report.ensures, take_rest) (reported_more c.loop-rest.report c.loop-rest.rest.now p ∙ c.loop-rest.invariant)
+    let n : c.from_be_bytes.result ≡ get_or c.loop-rest.rest.now 1 0 * 256 + get_or c.loop-rest.rest.now 2 0 = omega arith in
+    simp (c.note.ensures, n, take_rest) (reported_more c.loop-rest.report c.loop-rest.rest.now p ∙ c.loop-rest.invariant)
