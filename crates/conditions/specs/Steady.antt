@@ -1,6 +1,6 @@
 -- Laws of truths that stay: the connectives, a test of one variable, and a choice keep them.
 use Rattle.std.specs.Prelude.{◌≡◌, ℕ, Bool, true, false, cond, Some, None, Option, refl}
-use Rattle.std.proofs.Common.{sym, ap, subst, ◌∙◌, arith}
+use Rattle.std.proofs.Common.{sym, ap, subst, ◌∙◌}
 use Rattle.conditions.specs.declared.truth.Truth.{Truth}
 use Rattle.conditions.specs.declared.truth.Truth.TheVariants.{True, False, Unknown}
 use Rattle.conditions.specs.Laws.{Stays}
@@ -16,8 +16,8 @@ true_stays {x} {y} stays e = subst (λ z. Stays z y) e stays
 
 pub is_true_lem : (x : Truth) → is_true x ≡ true → x ≡ True
 is_true_lem True e = refl
-is_true_lem False e = let z : ◌≡◌ {A = ℕ} 0 1 = cc in absurd (omega arith)
-is_true_lem Unknown e = let z : ◌≡◌ {A = ℕ} 0 1 = cc in absurd (omega arith)
+is_true_lem False e = cc
+is_true_lem Unknown e = cc
 
 conj_false : (x : Truth) → conj x False ≡ False
 conj_false True = refl

@@ -1,5 +1,5 @@
 -- Three-valued truth, as in SQL.
-use Rattle.std.specs.Prelude.{ℕ, Bool, true, false, cond, ◌&&◌, Some, None, Option, nat_le}
+use Rattle.std.specs.Prelude.{ℕ, Bool, true, false, cond, ◌&&◌, List, Some, None, Option, codes, nat_le}
 use Rattle.conditions.specs.declared.truth.Truth.{Truth}
 use Rattle.conditions.specs.declared.truth.Truth.TheVariants.{True, False, Unknown}
 
@@ -31,7 +31,18 @@ is_true True = true
 is_true False = false
 is_true Unknown = false
 
+-- what a test says of a value is true or false, and of an unknown value unknown
+abbrev pub tested : Option Bool → Truth
+tested None = Unknown
+tested (Some b) = cond b True False
+
 -- a value lies from low to high, both included; of an unknown value that is unknown
 abbrev pub within : Option ℕ → ℕ → ℕ → Truth
 within None low high = Unknown
 within (Some x) low high = cond (nat_le low x && nat_le x high) True False
+
+-- the words of the three truths
+abbrev pub word_of : Truth → List ℕ
+word_of True = codes "true"
+word_of False = codes "false"
+word_of Unknown = codes "unknown"

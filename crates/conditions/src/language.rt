@@ -1,5 +1,5 @@
 //! What a condition language is.
-ghost use Rattle.std.specs.Prelude.{◌≡◌, ℕ, true};
+ghost use Rattle.std.specs.Prelude.{◌≡◌, ℕ, ◌+◌, ◌-◌, ◌<◌, ◌≤◌, true};
 ghost use Rattle.states.specs.declared.state.State.{State};
 ghost use Rattle.conditions.specs.declared.truth.Truth.{Truth};
 ghost use Rattle.conditions.specs.declared.truth.Truth.TheVariants.{True};
@@ -43,4 +43,21 @@ pub fn holds<L: Language>(language: &L, n: u16, state: &State) -> bool
     ensures whole { KeptThenWhole }
 {
     is_true_of(language, n, state)
+}
+
+/// What condition `n` says in a language that has `count` conditions of its own: 0 is true, 1 is
+/// false, its own are numbered from 2, and past them it is unknown.
+pub fn with_own<F: FnOnce(u16) -> Truth>(count: u16, n: u16, own: F) -> Truth
+    requires { 2 ≤ n → n < count + 2 → F.pre own (n - 2) }
+    ensures always { n ≡ 0 → result ≡ Truth.True }
+    ensures never { n ≡ 1 → result ≡ Truth.False }
+    ensures own { 2 ≤ n → n < count + 2 → F.post own (n - 2) result }
+    ensures past { count + 2 ≤ n → result ≡ Truth.Unknown }
+{
+    match n {
+        0 => Truth::True,
+        1 => Truth::False,
+        _ if n - 2 < count => own(n - 2),
+        _ => Truth::Unknown,
+    }
 }

@@ -1,5 +1,5 @@
 -- The seventeen refusals, each with its number and its layer.
-use Rattle.std.specs.Prelude.{ℕ}
+use Rattle.std.specs.Prelude.{ℕ, List, ◌++◌, codes, decimal}
 use Rattle.faults.specs.declared.Refusal.{Refusal}
 use Rattle.faults.specs.declared.Refusal.TheVariants.{CommandIllFormed, NotAPerson, NoSuchHook, ValueOutOfRange, NoSuchCondition, GranteeIsCallerOrOwner, NoSuchGrant, NotTheGrantor, NumbersSpent, RecordFull, NoChain, KeyNotIn, KeyNotOut, NotPromised, AlreadyFitted, FittingIllFormed, ConditionsIllFormed}
 use Rattle.faults.specs.declared.Layer.{Layer}
@@ -49,3 +49,7 @@ layer_of ConditionsIllFormed = Conditions
 -- a refusal at a place
 abbrev pub fault : Refusal → ℕ → Fault
 fault refusal place = record { refusal = refusal; place = place; layer = layer_of refusal }
+
+-- a refusal as it is printed: "no", its number and its place
+abbrev pub printed : Fault → List ℕ
+printed f = codes "no " ++ (decimal (number_of f.refusal) ++ (codes " " ++ decimal f.place))

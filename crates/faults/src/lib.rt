@@ -1,8 +1,11 @@
 //! What a refusal says: which of the seventeen it is, where, and which layer refused.
 #![tactic(auto)]
 
-ghost use Rattle.std.specs.Prelude.{◌≡◌};
-ghost use Rattle.faults.specs.Faults.{number_of, layer_of, fault};
+ghost use Rattle.std.specs.Prelude.{◌≡◌, Some};
+ghost use Rattle.faults.specs.Faults.{number_of, layer_of, fault, printed};
+
+use std::error::Error;
+use std::fmt;
 
 /// The seventeen reasons to refuse, in the order of their checks.
 #[derive(Clone, Copy, Debug, PartialEq, Eq)]
@@ -91,3 +94,16 @@ impl Refusal {
         }
     }
 }
+
+/// A refusal as it is printed: "no", its number and its place.
+impl fmt::Display for Fault {
+    ghost output = { λ f. Some (printed f) };
+
+    fn fmt<W: fmt::Write>(&self, f: &mut fmt::Formatter<W>) -> fmt::Result {
+        let number = self.refusal.number();
+        let place = self.place;
+        write!(f, "no {number} {place}")
+    }
+}
+
+impl Error for Fault {}

@@ -8,7 +8,7 @@ use Rattle.states.specs.States.{known, only_at, only, InRange, ToldMore}
 
 pub none_known : (b : Bool) (o : Option ℕ) (n : ℕ) → cond b o None ≡ Some n → (b ≡ true) × (o ≡ Some n)
 none_known true o n e = (refl, e)
-none_known false o n e = let z : ◌≡◌ {A = ℕ} 0 1 = cc in absurd (omega arith)
+none_known false o n e = cc
 
 module _ (test : ℕ → Bool) where
   pub known_only : (s : State) (v : ℕ) → known (only test s) v ≡ cond (nat_lt v 8) (only_at test s v) None

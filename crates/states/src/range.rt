@@ -23,10 +23,8 @@ fn is_out(s: &State, v: u8) -> bool
     requires { v < 8 }
     ensures { result ≡ out_at s.now v }
 {
-    match s.known(v) {
-        None => false,
-        Some(n) => n < least_of(v) || greatest_of(v) < n,
-    }
+    s.known(v)
+        .is_some_and(|n| n < least_of(v) || greatest_of(v) < n)
 }
 
 impl State {
@@ -36,11 +34,9 @@ impl State {
         ensures is { result ≡ range_check self.now }
         ensures law { Ranged self.now result }
     {
-        for v in 0..8u8 {
-            if is_out(self, v) {
-                return Err(Refusal::ValueOutOfRange.at(v as usize));
-            }
+        match (0..8u8).find(|v| is_out(self, *v)) {
+            Some(v) => Err(Refusal::ValueOutOfRange.at(v as usize)),
+            None => Ok(()),
         }
-        Ok(())
     }
 }

@@ -5,7 +5,7 @@ ghost use Rattle.states.specs.Reports.{state_of};
 use crate::state::State;
 
 /// The variables 2 to 7, each known or unknown.
-#[derive(Clone, Copy, Debug, PartialEq, Eq)]
+#[derive(Clone, Copy, Debug, Default, PartialEq, Eq)]
 pub struct Report {
     pub time: Option<u16>,
     pub day: Option<u16>,
@@ -21,14 +21,10 @@ impl Report {
     pub fn state(&self, caller: u8, receiver: Option<u8>) -> State
         ensures { result ≡ state_of caller receiver self.now }
     {
-        let receiver = match receiver {
-            Some(person) => Some(person as u16),
-            None => None,
-        };
         State {
             values: [
-                Some(caller as u16),
-                receiver,
+                Some(u16::from(caller)),
+                receiver.map(u16::from),
                 self.time,
                 self.day,
                 self.groups,

@@ -1,10 +1,14 @@
 //! A state, and the parts of it that a set of variables picks out.
-ghost use Rattle.std.specs.Prelude.{◌≡◌};
-ghost use Rattle.states.specs.States.{known, names, kept, hidden, kept_at, hidden_at};
+ghost use Rattle.std.specs.Prelude.{◌≡◌, ℕ, ◌<◌, Bool};
+ghost use Rattle.states.specs.States.{known, names, kept, hidden, only};
+
+use std::array;
 
 /// The variables by number: the caller, the receiver, the minute of the day, the day of the
 /// week (Monday 0), the caller's groups (a set of 16), the panel (1: trusted), the certainty
 /// of the card in per cent, and the emergency mark.
+// stays: a book's bytes, a set of variables and the place of a refusal count variables by these
+// numbers, so an enum would be turned back into its number at each of them
 pub const USER: u8 = 0;
 
 pub const GRANTEE: u8 = 1;
@@ -39,26 +43,16 @@ impl State {
     pub fn known(&self, v: u8) -> Option<u16>
         ensures { result ≡ known self.now v }
     {
-        if v < 8 { self.values[v as usize] } else { None }
+        self.values.get(v as usize).copied().flatten()
     }
 
-    fn kept_at(&self, set: u8, v: u8) -> Option<u16>
-        ensures { result ≡ kept_at set self.now v }
+    /// The state that knows only the variables which pass the test.
+    fn only<F: Fn(u8) -> bool>(&self, test: F) -> State
+        requires { F.IsAlwaysCallable test }
+        ensures { (t : ℕ → Bool) → ((v : ℕ) (b : Bool) → v < 8 → F.post test v b → b ≡ t v) → result ≡ only t self.now }
     {
-        if v < 2 || is_named(set, v) {
-            self.known(v)
-        } else {
-            None
-        }
-    }
-
-    fn hidden_at(&self, set: u8, v: u8) -> Option<u16>
-        ensures { result ≡ hidden_at set self.now v }
-    {
-        if v < 2 || !is_named(set, v) {
-            self.known(v)
-        } else {
-            None
+        State {
+            values: array::from_fn(|v| if test(v as u8) { self.values[v] } else { None }),
         }
     }
 
@@ -66,35 +60,13 @@ impl State {
     pub fn kept(&self, set: u8) -> State
         ensures { result ≡ kept set self.now }
     {
-        State {
-            values: [
-                self.kept_at(set, 0),
-                self.kept_at(set, 1),
-                self.kept_at(set, 2),
-                self.kept_at(set, 3),
-                self.kept_at(set, 4),
-                self.kept_at(set, 5),
-                self.kept_at(set, 6),
-                self.kept_at(set, 7),
-            ],
-        }
+        self.only(|v| v < 2 || is_named(set, v))
     }
 
     /// The rest: variables that `set` names are unknown; 0 and 1 cannot be hidden.
     pub fn hidden(&self, set: u8) -> State
         ensures { result ≡ hidden set self.now }
     {
-        State {
-            values: [
-                self.hidden_at(set, 0),
-                self.hidden_at(set, 1),
-                self.hidden_at(set, 2),
-                self.hidden_at(set, 3),
-                self.hidden_at(set, 4),
-                self.hidden_at(set, 5),
-                self.hidden_at(set, 6),
-                self.hidden_at(set, 7),
-            ],
-        }
+        self.only(|v| v < 2 || !is_named(set, v))
     }
 }

@@ -1,31 +1,23 @@
-use Rattle.std.proofs.Common.{◌≡◌, ◌-◌, Err, sym, ap, ◌∙◌, arith, below_more}
-use Rattle.states.specs.Ranges.{check_from}
-use Rattle.states.proofs.Checks.{refused_here, refused_later, in_at, out_at_lem, all_in}
+use Rattle.std.proofs.Common.{◌≡◌, ◌<◌, ℕ, true, false, Some, None, Err, sym, ap, ◌∙◌, arith, rules}
+use Rattle.std.proofs.lemmas.Iterator.{first_from_Range}
+use Rattle.states.specs.Ranges.{out_at}
+use Rattle.states.proofs.Checks.{passed, refused, in_at, out_at_lem, all_in}
 use Rattle.states.proofs.state.State.check_ranges.Goals as goal
 
-pub returns-then-is_out : goal.returns-then-is_out
-returns-then-is_out c =
+pub returns-in-Some : goal.returns-in-Some
+returns-in-Some c =
     let s = c.args.self.now in
-    let v = c.loop-v.v in
-    let out = sym c.is_out.ensures ∙ c.if-is_out.true in
+    let first = first_from_Range _ _ _ (Some c.in-Some.v) (λ v. out_at s v ≡ true) (λ v. out_at s v ≡ false) c.in-Some.ensures.ran (λ v q k. search rules) (λ v q k. search rules) in
+    let v = c.in-Some.v in
+    let before : (k : ℕ) → k < v → out_at s k ≡ false = λ k h. first.3 k (omega arith) h in
     record {
-      is = ap (λ e. Err e) c.at.ensures ∙ sym (refused_here s v c.loop-v-test.true out) ∙ c.loop-v.invariant.0;
-      law = (v, c.at.ensures, c.loop-v-test.true, out_at_lem s v out, λ u h. in_at s u (c.loop-v.invariant.1 u h));
+      is = ap (λ e. Err e) c.at.ensures ∙ sym (refused s v first.1 first.2 before);
+      law = (v, c.at.ensures, first.1, out_at_lem s v first.2, λ u h. in_at s u (before u h));
     }
 
-pub loop-v-preserved : goal.loop-v-preserved
-loop-v-preserved c =
+pub returns-in-None : goal.returns-in-None
+returns-in-None c =
     let s = c.args.self.now in
-    let v = c.loop-v.v in
-    let inside = sym c.is_out.ensures ∙ c.if-is_out.false in
-    (sym (refused_later s v c.loop-v-test.true inside) ∙ c.loop-v.invariant.0, below_more _ _ c.loop-v.invariant.1 inside)
-
-pub returns : goal.returns
-returns c =
-    let s = c.args.self.now in
-    let v = c.loop-v.v in
-    let ended : 8 - v ≡ 0 = omega arith in
-    record {
-      is = sym (ap (check_from s v) ended) ∙ c.loop-v.invariant.0;
-      law = all_in s (λ k h. c.loop-v.invariant.1 k (omega arith));
-    }
+    let inside = first_from_Range _ _ _ None (λ v. out_at s v ≡ true) (λ v. out_at s v ≡ false) c.in-None.ensures.ran (λ v q k. search rules) (λ v q k. search rules) in
+    let all : (k : ℕ) → k < 8 → out_at s k ≡ false = λ k h. inside k (omega arith) h in
+    record { is = sym (passed s 8 (omega arith) all); law = all_in s all }
