@@ -67,14 +67,7 @@ fn note(report: &mut Report, v: u8, n: u16)
 pub(crate) fn report_of(value: &[u8]) -> Report
     ensures { result ≡ reported unknown value.now }
 {
-    let mut report = Report {
-        time: None,
-        day: None,
-        groups: None,
-        path: None,
-        level: None,
-        status: None,
-    };
+    let mut report = Report::default();
     let mut rest = value;
     while let [v, hi, lo, more @ ..] = rest {
         note(&mut report, *v, u16::from_be_bytes([*hi, *lo]));
