@@ -6,7 +6,8 @@ ghost use Rattle.frames.specs.Views.{parts_of};
 ghost use Rattle.sessions.specs.Sessions.{session, printed};
 ghost use Rattle.sessions.specs.Performing.{Fitted, runs};
 
-use crate::session::{answer_all, unread_line};
+use crate::lines::unread_line;
+use crate::session::answer_all;
 use books::book::Book;
 use books::field::check;
 use conditions::language::Language;
