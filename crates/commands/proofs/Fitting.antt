@@ -1,12 +1,12 @@
 -- A value says something exactly if it is of the kind of its tag.
 use Rattle.std.proofs.Common.{◌≡◌, ℕ, ◌<◌, Bool, true, false, cond, eqb, ltb, List, [], ◌∷◌, length, is_some, Some, None, Option, sym, refl, ap, ◌∙◌, subst, arith}
-use Rattle.std.specs.Option.{option_map}
+use Rattle.std.specs.Option.{option_map, option_and_then as then}
 use Rattle.std.specs.List.{ContainsAt as Has, AllByRecursion}
 use Rattle.std.proofs.ByRecursion.{all-has, all_has_itself, All-weaker}
 use Rattle.std.proofs.lemmas.Bool.{ltb-true, lt-ltb}
 use Rattle.command_words.specs.Format.{verb_letter, verbs_all, mode_letter, modes_all, outcome_letter, outcomes_all, Kind, kind_of}
 use Rattle.command_words.specs.Format.Kind.{letter}
-use Rattle.commands.specs.Steps.{then, alone, pair, quad, verb_named, mode_named, outcome_named, rising, Said, worth}
+use Rattle.commands.specs.Steps.{alone, pair, quad, verb_named, mode_named, outcome_named, rising, Said, worth}
 use Rattle.commands.specs.Steps.Said.{verb, caller, hook, grantee, execute, onward, mode, state, outcome, number}
 use Rattle.commands.specs.Law.{Entries, Fits}
 use Rattle.commands.proofs.Letters.{named_none}

@@ -1,13 +1,13 @@
 -- A letter that names a word is that word's letter.
 use Rattle.std.proofs.Common.{◌≡◌, ℕ, true, false, eqb, List, [], ◌∷◌, Some, None, map, sym, refl, ap, ◌∙◌, ⊎_elim}
+use Rattle.std.proofs.lemmas.Option.{none-some}
 use Rattle.std.specs.List.{AllByRecursion}
 use Rattle.std.proofs.lemmas.Bool.{cases_Bool, eqb-true, cond-true, cond-false}
 use Rattle.command_words.specs.Letters.{named}
-use Rattle.commands.proofs.Tags.{none_some}
 
 module _ {X : Type 0} (letter : X → ℕ) where
   pub named_letter : (words : List X) (l : ℕ) (x : X) → named letter words l ≡ Some x → l ≡ letter x
-  named_letter [] l x e = absurd (none_some e)
+  named_letter [] l x e = absurd (none-some _ e)
   named_letter (w ∷ more) l x e =
       ⊎_elim
       (λ (s : eqb l (letter w) ≡ true).

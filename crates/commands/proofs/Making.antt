@@ -1,6 +1,7 @@
 -- The command that fields make, and the field that is missing where they make none.
 use Rattle.std.proofs.Common.{◌≡◌, ℕ, true, false, cond, eqb, ◌⊎◌, List, [], ◌∷◌, ◌++◌, is_some, Some, None, Option, unwrap_or, sym, refl, ap, ◌∙◌, subst, inl, inr, ⊎_elim}
-use Rattle.std.specs.Option.{option_map, option_or}
+use Rattle.std.proofs.lemmas.Option.{none-some, cond_some}
+use Rattle.std.specs.Option.{option_map, option_or, option_and_then as then}
 use Rattle.std.specs.List.{ContainsAt as Has, AllByRecursion}
 use Rattle.std.proofs.ByRecursion.{all-has}
 use Rattle.std.proofs.lemmas.Bool.{cases_Bool, cond-true, cond-false}
@@ -17,11 +18,11 @@ use Rattle.commands.specs.declared.drafts.Draft.{Draft}
 use Rattle.command_words.specs.Fields.{Field, spell, spells, look}
 use Rattle.command_words.specs.LetterLaws.{verb_lettered, mode_lettered, outcome_lettered}
 use Rattle.command_words.specs.Format.{verb_of, verb_letter, mode_letter, modes_all, outcome_letter, outcomes_all, tags_of, default_of, pair_of, quad_of, entries}
-use Rattle.commands.specs.Steps.{then, alone, pair, quad, verb_named, mode_named, outcome_named, unknown, reported, rising, Said, worth}
+use Rattle.commands.specs.Steps.{alone, pair, quad, verb_named, mode_named, outcome_named, unknown, reported, rising, Said, worth}
 use Rattle.commands.specs.Steps.Said.{verb, caller, hook, grantee, execute, onward, mode, state, outcome, number}
 use Rattle.commands.specs.Drafts.{any, terms_with, terms_in, closed, closed_by, draft_of}
 use Rattle.commands.specs.Law.{VerbHas, says, Makes, Lacks}
-use Rattle.commands.proofs.Tags.{none_some, then_some, mapped_some, some_since, cond_some}
+use Rattle.commands.proofs.Tags.{then_some, mapped_some, some_since}
 use Rattle.commands.proofs.Fitting.{apart, rising_tells}
 use Rattle.commands.proofs.Letters.{named_letter}
 use Rattle.commands.proofs.Sound.{Kept, sound, verb_stands, alone_is, any_has, first_tags}
@@ -44,11 +45,11 @@ then_none (Some x) e = inr (x, refl, e)
 
 mapped_none : {X Y : Type 0} (F : X → Y) (o : Option X) → option_map F o ≡ None → o ≡ None
 mapped_none F None e = refl
-mapped_none F (Some x) e = absurd (none_some (sym e))
+mapped_none F (Some x) e = absurd (none-some _ (sym e))
 
 -- the bytes under a tag are bytes
 look_bytes : (fs : List Field) → Bytes (spells fs) → (t : ℕ) (v : List ℕ) → look t fs ≡ Some v → Bytes v
-look_bytes [] b t v e = absurd (none_some e)
+look_bytes [] b t v e = absurd (none-some _ e)
 look_bytes (f ∷ before) b t v e =
     let p = all_parts (spells before) (spell f) b in
     ⊎_elim
@@ -85,7 +86,7 @@ module _ (fs : List Field) (k : Kept fs) where
 
   report_missing : (o : Option (List ℕ)) → option_map (reported unknown) o ≡ None → o ≡ None
   report_missing None e = refl
-  report_missing (Some v) e = absurd (none_some (sym e))
+  report_missing (Some v) e = absurd (none-some _ (sym e))
 
   terms_missing : terms_in (draft_of fs) ≡ None → look 8 fs ≡ None
   terms_missing e = report_missing (look 8 fs) (mapped_none (terms_with (draft_of fs)) (draft_of fs).report e)
@@ -219,7 +220,7 @@ module _ (fs : List Field) (k : Kept fs) (b : Bytes (spells fs)) where
 
 -- what is said goes into the draft
 pub said_look : (o : Option (List ℕ)) (v : List ℕ) → option_or o None ≡ Some v → o ≡ Some v
-said_look None v e = absurd (none_some e)
+said_look None v e = absurd (none-some _ e)
 said_look (Some u) v e = e
 
 module _ (fs : List Field) where
@@ -293,7 +294,7 @@ abbrev SaidAt : List Field → ℕ → Type 0
 SaidAt fs t = says fs t ≡ None → ⊥
 
 said_at : (fs : List Field) (t : ℕ) (v : List ℕ) → says fs t ≡ Some v → SaidAt fs t
-said_at fs t v e n = none_some (sym n ∙ e)
+said_at fs t v e n = none-some _ (sym n ∙ e)
 
 pub made_tags : (fs : List Field) (made : Command) → Makes fs made → (says fs 1 ≡ Some (verb_letter (verb_of made) ∷ [])) × AllByRecursion (SaidAt fs) (tags_of (verb_of made))
 made_tags fs (commands.Issue c h g terms) (t8, (t7, (t6, (t5, (t4, (t3, (t2, (t1, done)))))))) =

@@ -1,6 +1,7 @@
 -- Fields that pass the tests keep the rules, and the other way round.
 use Rattle.std.proofs.Common.{◌≡◌, ℕ, true, false, eqb, ltb, List, [], ◌∷◌, is_some, Some, None, Option, sym, refl, ap, ◌∙◌, subst, ⊎_elim}
-use Rattle.std.specs.Option.{option_map}
+use Rattle.std.proofs.lemmas.Option.{none-some}
+use Rattle.std.specs.Option.{option_map, option_and_then as then}
 use Rattle.std.specs.List.{ContainsAt as Has, AllByRecursion}
 use Rattle.std.proofs.ByRecursion.{all-has, all_has_itself, All-weaker}
 use Rattle.std.proofs.lemmas.Bool.{cases_Bool, ltb-true, lt-ltb, eqb-true, eqb-false, eq-eqb, and_parts, and_cases, cond-true, cond-false}
@@ -9,13 +10,13 @@ use Rattle.command_words.specs.declared.Verb.TheVariants.{Issue, Amend, Withdraw
 use Rattle.command_words.specs.Fields.{Field, look, last_tag}
 use Rattle.command_words.specs.LetterLaws.{verb_lettered}
 use Rattle.command_words.specs.Format.{verb_letter, verbs_all, tags_of}
-use Rattle.commands.specs.Steps.{then, alone, verb_named, worth}
+use Rattle.commands.specs.Steps.{alone, verb_named, worth}
 use Rattle.commands.specs.Steps.Said.{verb}
 use Rattle.commands.specs.Drafts.{any, belongs, may_come, draft_of}
 use Rattle.commands.specs.Reading.{keeps}
 use Rattle.commands.specs.Law.{VerbHas, Belongs, Keeps, Breaks, Lawful}
 use Rattle.commands.specs.Law.Breaks.{not_rising, foreign, unfit}
-use Rattle.commands.proofs.Tags.{by_tags, none_some, then_some, mapped_some, some_since}
+use Rattle.commands.proofs.Tags.{by_tags, then_some, mapped_some, some_since}
 use Rattle.commands.proofs.Fitting.{Tells, apart, fits_tells}
 use Rattle.commands.proofs.Letters.{named_letter}
 
@@ -26,7 +27,7 @@ Kept (f ∷ before) = Kept before × (keeps before f ≡ true)
 
 -- so each value is of its kind
 pub sound : (fs : List Field) → Kept fs → (t : ℕ) (v : List ℕ) → look t fs ≡ Some v → is_some (worth t v) ≡ true
-sound [] k t v e = absurd (none_some e)
+sound [] k t v e = absurd (none-some _ e)
 sound (f ∷ before) k t v e =
     ⊎_elim
     (λ (same : eqb f.0 t ≡ true).
@@ -38,9 +39,9 @@ sound (f ∷ before) k t v e =
     (cases_Bool (eqb f.0 t))
 
 pub alone_is : (v : List ℕ) (x : ℕ) → alone v ≡ Some x → v ≡ x ∷ []
-alone_is [] x e = absurd (none_some e)
+alone_is [] x e = absurd (none-some _ e)
 alone_is (y ∷ []) x e = let s : y ≡ x = cc in ap (λ z. z ∷ []) s
-alone_is (y ∷ z ∷ r) x e = absurd (none_some e)
+alone_is (y ∷ z ∷ r) x e = absurd (none-some _ e)
 
 -- a verb that was read stands in its field
 pub verb_stands : (v : List ℕ) (w : Verb) → then verb_named (alone v) ≡ Some w → v ≡ verb_letter w ∷ []

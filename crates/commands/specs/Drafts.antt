@@ -1,6 +1,6 @@
 -- What the reader's draft holds and becomes. The law of reading does not cite this file.
 use Rattle.std.specs.Prelude.{ℕ, Bool, true, false, cond, ◌&&◌, List, [], ◌∷◌, Some, None, Option, ◌==◌, nat_lt}
-use Rattle.std.specs.Option.{option_map, unwrap_or}
+use Rattle.std.specs.Option.{option_map, unwrap_or, option_and_then as then}
 use Rattle.states.specs.declared.report.Report.{Report}
 use Rattle.grants.specs.declared.Mode.TheVariants.{Expiring}
 use Rattle.grants.specs.declared.terms.Terms.{Terms}
@@ -12,7 +12,7 @@ use Rattle.commands.specs.declared.fields.Parsed.{Parsed}
 use Rattle.commands.specs.declared.drafts.Draft.{Draft}
 use Rattle.command_words.specs.Fields.{Field, last_tag, look}
 use Rattle.command_words.specs.Format.{tags_of}
-use Rattle.commands.specs.Steps.{then, parsed, cut, alone, pair, quad, verb_named, mode_named, outcome_named, unknown, reported, Said, tag_of, worth}
+use Rattle.commands.specs.Steps.{parsed, cut, alone, pair, quad, verb_named, mode_named, outcome_named, unknown, reported, Said, tag_of, worth}
 use Rattle.commands.specs.Steps.Said.{verb, caller, hook, grantee, execute, onward, mode, state, outcome, number}
 
 abbrev pub blank : Draft

@@ -1,6 +1,6 @@
 -- What the reader's inner functions answer: the first field, values, tokens. The law of reading does not cite this file.
 use Rattle.std.specs.Prelude.{ℕ, ◌+◌, ◌*◌, Bool, true, false, cond, List, [], ◌∷◌, length, take, drop, Some, None, Option, ◌==◌, nat_le, nat_lt}
-use Rattle.std.specs.Option.{option_map}
+use Rattle.std.specs.Option.{option_map, option_and_then as then}
 use Rattle.states.specs.declared.report.Report.{Report}
 use Rattle.grants.specs.declared.Mode.{Mode}
 use Rattle.command_words.specs.declared.Verb.{Verb}
@@ -12,11 +12,6 @@ use Rattle.commands.specs.declared.tokens.Token.{Token}
 use Rattle.command_words.specs.Fields.{Field}
 use Rattle.command_words.specs.Letters.{named}
 use Rattle.command_words.specs.Format.{verb_letter, verbs_all, mode_letter, modes_all, outcome_letter, outcomes_all}
-
--- one answer after another
-abbrev pub then : {X Y : Type 0} → (X → Option Y) → Option X → Option Y
-then f None = None
-then f (Some x) = f x
 
 -- what was read at the front of some bytes, seen in another way, and what stands behind it
 abbrev pub parsed : {T X : Type 0} → (T → X) → Parsed T → X × List ℕ

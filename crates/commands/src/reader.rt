@@ -42,6 +42,8 @@ fn walk(bytes: &[u8]) -> Result<Command, Fault>
 {
     let mut draft = Draft::blank();
     let mut rest = bytes;
+    // stays: a fold over the fields would carry the draft and the offset of each along, and reads no
+    // plainer than this loop.
     while !rest.is_empty() {
         let at = bytes.len() - rest.len();
         let step = advance(draft, rest).ok_or(Refusal::CommandIllFormed.at(at))?;

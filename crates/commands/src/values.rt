@@ -38,6 +38,8 @@ pub(crate) fn is_state(value: &[u8]) -> bool
 {
     let mut last: u8 = 1;
     let mut rest = value;
+    // stays: the pattern names an entry's bytes and what is left over; chunks of three would be
+    // indexed, and their remainder asked for apart.
     while let [v, _, _, more @ ..] = rest {
         if *v <= last || *v > 7 {
             return false;
@@ -69,6 +71,7 @@ pub(crate) fn report_of(value: &[u8]) -> Report
 {
     let mut report = Report::default();
     let mut rest = value;
+    // stays: as in `is_state`, the pattern names what chunks of three would index.
     while let [v, hi, lo, more @ ..] = rest {
         note(&mut report, *v, u16::from_be_bytes([*hi, *lo]));
         rest = more;

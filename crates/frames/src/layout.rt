@@ -1,7 +1,6 @@
 //! Cutting a session file into its parts.
 ghost use Rattle.std.specs.Prelude.{◌≡◌, ◌≤◌, length, Result};
-ghost use Rattle.std.specs.Option.{option_map};
-ghost use Rattle.commands.specs.Steps.{then};
+ghost use Rattle.std.specs.Option.{option_map, option_and_then as then};
 ghost use Rattle.frames.specs.Frames.{Parts, field_of, set_in, condition_length, book_length, split, laid_out, next_command};
 ghost use Rattle.frames.specs.Law.{Framed};
 ghost use Rattle.frames.specs.Views.{seen_as, parts_of, piece_of, kept_of};
@@ -66,6 +65,8 @@ fn book_len(bytes: &[u8]) -> usize
     ensures within { result ≤ length bytes.now }
 {
     let mut rest = bytes;
+    // stays: fields differ in length, so that each says where the next one begins; no chunk or window
+    // of a slice does that.
     while let [0xC1, ..] = rest {
         rest = &rest[condition_len(rest)..];
     }
