@@ -24,11 +24,7 @@ const MOST: usize = 65535;
 fn front<'a>(file: &'a [u8]) -> &'a [u8]
     ensures { result.now ≡ take 65535 file.now }
 {
-    if file.len() > MOST {
-        &file[0..MOST]
-    } else {
-        file
-    }
+    &file[..file.len().min(MOST)]
 }
 
 /// Fits a new cabinet, and then checks the book that it goes by.
