@@ -1,5 +1,5 @@
 -- A call that ends with an event of a key: what the loans answer and leave is what the plain step does.
-use Rattle.std.proofs.Common.{◌≡◌, ℕ, List, [], ◌∷◌, ◌++◌, map, reverse, is_some, Some, None, Ok, Err, Option, Result, unwrap_or, sym, refl, ap, ◌∙◌, subst, arith}
+use Rattle.std.proofs.Common.{◌≡◌, ℕ, set, List, [], ◌∷◌, ◌++◌, map, reverse, is_some, Some, None, Ok, Err, Option, Result, unwrap_or, sym, refl, ap, ◌∙◌, subst, arith}
 use Rattle.faults.specs.declared.Fault.{Fault}
 use Rattle.states.specs.declared.state.State.{State}
 use Rattle.states.specs.declared.report.Report.{Report}
@@ -17,7 +17,8 @@ use Rattle.loans.specs.Events.{judged, leads_to}
 use Rattle.loans.proofs.Listed.{listed}
 use Rattle.loans.specs.declared.table.Loans.{Loans}
 use Rattle.loans.specs.Hooks as loans
-use Rattle.loans.specs.Hooks.{hooks, answered, EventLaw}
+use Rattle.loans.specs.Hooks.{hooks, answered, Leaves}
+use Rattle.loans.proofs.Judged.{ok_allowed}
 use Rattle.plain.specs.Record.{World, Answer, Refused, Done, Draw, found, first_fault, chainless, draw_before, judged_by, hook_at, number_of, with_hook, step, whole}
 use Rattle.plain.specs.Record as plain
 use Rattle.ledger.specs.declared.held.Ledger.{Ledger}
@@ -27,7 +28,7 @@ use Rattle.ledger.specs.Ledgers.{world_with, owner_in, chain_on_record, named_on
 none_some : {A : Type 0} {x : A} → Some x ≡ None → ⊥
 none_some e = let z : ◌≡◌ {A = ℕ} 0 1 = cc e in omega (arith, z)
 
-ok_err : {A E : Type 0} {a : A} {e : E} → ◌≡◌ {A = Result A E} (Ok a) (Err e) → ⊥
+pub ok_err : {A E : Type 0} {a : A} {e : E} → ◌≡◌ {A = Result A E} (Ok a) (Err e) → ⊥
 ok_err k = let z : ◌≡◌ {A = ℕ} 0 1 = cc k in omega (arith, z)
 
 -- the first fault, behind checks that find none, and before any others
@@ -50,9 +51,9 @@ unless_err : {A : Type 0} (f : Option Fault) (a : A) (x : Fault) → Err x ≡ u
 unless_err None a x e = absurd (ok_err (sym e))
 unless_err (Some y) a x e = let same : y ≡ x = cc (sym e) in ap (λ (z : Fault). Some z) same
 
--- what a call answers by what became of its key: a, unless the loans refuse
-abbrev pub answered_by : Result (Unit {0}) Fault → Answer → Answer
-answered_by (Ok u) a = a
+-- what a call answers by the judgement of its event: a, unless it refuses
+abbrev pub answered_by : Result HookState Fault → Answer → Answer
+answered_by (Ok s) a = a
 answered_by (Err e) a = Refused e
 
 -- a call whose last check and whose effect are an event of a key
@@ -60,32 +61,34 @@ module _ (l : Ledger) (before after : Loans) (h : ℕ) (event : Event) (cs : Lis
   abbrev was : World
   was = world_with l (hooks before)
 
-  abbrev Came : Result (Unit {0}) Fault → Result HookState Fault → Type 0
-  Came r j = judged_by was (first_fault (cs ++ (found j ∷ []))) (with_hook was h (leads_to event), a) ≡ (world_with l (hooks after), answered_by r a)
+  abbrev Came : Result HookState Fault → Result HookState Fault → Type 0
+  Came i j = judged_by was (first_fault (cs ++ (found j ∷ []))) (with_hook was h (leads_to event), a) ≡ (world_with l (hooks after), answered_by i a)
 
-  pub happened : (r : Result (Unit {0}) Fault) → first_fault cs ≡ None → r ≡ answered (judged h (loans.state_of before h) event) → EventLaw before h event after r → Came r (judged h (hook_at was h) event)
-  happened r pass e law = subst (λ k. Came r (judged h k event)) (listed before h) (go (judged h (loans.state_of before h) event) e)
+  pub happened : first_fault cs ≡ None → Leaves before h (judged h (loans.state_of before h) event) after
+      → Came (judged h (loans.state_of before h) event) (judged h (hook_at was h) event)
+  happened pass law = subst (λ k. Came (judged h (loans.state_of before h) event) (judged h k event)) (listed before h) (go (judged h (loans.state_of before h) event) refl law)
     where
-      go : (j : Result HookState Fault) → r ≡ answered j → Came r j
-      go (Ok s) e =
+      go : (j : Result HookState Fault) → judged h (loans.state_of before h) event ≡ j → Leaves before h j after → Came j j
+      go (Ok s) e moved =
           ap (λ f. judged_by was f (with_hook was h (leads_to event), a)) (behind cs (None ∷ []) pass)
-          ∙ (λ i. (world_with l (sym (subst (EventLaw before h event after) e law).1.list i), answered_by (sym e i) a))
-      go (Err x) e =
+          ∙ ap (λ (ks : List HookState). (world_with l ks, a)) (sym (moved.list ∙ ap (set (hooks before) h) (ok_allowed h (loans.state_of before h) s event e).1))
+      go (Err x) e same =
           ap (λ f. judged_by was f (with_hook was h (leads_to event), a)) (behind cs (Some x ∷ []) pass)
-          ∙ (λ i. (world_with l (hooks (sym (subst (EventLaw before h event after) e law) i)), answered_by (sym e i) a))
+          ∙ ap (λ (ls : Loans). (world_with l (hooks ls), Refused x)) (sym same)
 
 -- the same of a call that answers no more than that it is done
-pub done_so : (l : Ledger) (before after : Loans) (h : ℕ) (event : Event) (cs : List (Option Fault)) (r : Result (Unit {0}) Fault) → first_fault cs ≡ None
-    → r ≡ answered (judged h (loans.state_of before h) event) → EventLaw before h event after r
+pub done_so : (l : Ledger) (before after : Loans) (h : ℕ) (event : Event) (cs : List (Option Fault)) → first_fault cs ≡ None
+    → let j = judged h (loans.state_of before h) event in
+    Leaves before h j after
     → let w = world_with l (hooks before) in
     let x = judged_by w (first_fault (cs ++ (found (judged h (hook_at w h) event) ∷ []))) (with_hook w h (leads_to event), Done) in
-    (r ≡ done x.1) × (world_with l (hooks after) ≡ x.0)
-done_so l before after h event cs r pass e law =
-    let so = happened l before after h event cs Done r pass e law in
-    (told r ∙ sym (ap (λ (x : World × Answer). done x.1) so), sym (ap (λ (x : World × Answer). x.0) so))
+    (answered j ≡ done x.1) × (world_with l (hooks after) ≡ x.0)
+done_so l before after h event cs pass law =
+    let so = happened l before after h event cs Done pass law in
+    (told (judged h (loans.state_of before h) event) ∙ sym (ap (λ (x : World × Answer). done x.1) so), sym (ap (λ (x : World × Answer). x.0) so))
   where
-    told : (r : Result (Unit {0}) Fault) → r ≡ done (answered_by r Done)
-    told (Ok u) = refl
+    told : (j : Result HookState Fault) → answered j ≡ done (answered_by j Done)
+    told (Ok s) = refl
     told (Err e) = refl
 
 -- a draw, by its chain
@@ -109,6 +112,7 @@ module _ (size : ℕ) (means : ℕ → State → Truth) (l : Ledger) (before : L
   draw_unjustified x e =
       ap (λ f. judged_by w f (with_hook w h (Promised p), slipped)) (first front (found (judged h (hook_at w h) (event.Draw p)) ∷ []) x (unless_err (first_fault front) (named_of chain) x e))
 
-  pub draw_justified : (n : Named) → Ok n ≡ named_on size means l p h report → (after : Loans) (r : Result (Unit {0}) Fault) → r ≡ answered (judged h (loans.state_of before h) (event.Draw p)) → EventLaw before h (event.Draw p) after r
-      → step size means kept whole w (Draw p h report) ≡ (world_with l (hooks after), answered_by r slipped)
-  draw_justified n e after r d law = happened l before after h (event.Draw p) front slipped r (unless_ok (first_fault front) (named_of chain) n e).0 d law
+  pub draw_justified : (n : Named) → Ok n ≡ named_on size means l p h report → (after : Loans)
+      → let j = judged h (loans.state_of before h) (event.Draw p) in
+      Leaves before h j after → step size means kept whole w (Draw p h report) ≡ (world_with l (hooks after), answered_by j slipped)
+  draw_justified n e after law = happened l before after h (event.Draw p) front slipped (unless_ok (first_fault front) (named_of chain) n e).0 law

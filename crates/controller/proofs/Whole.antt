@@ -1,9 +1,10 @@
 -- A run, call by call, and the promise at its end.
-use Rattle.std.proofs.Common.{◌≡◌, ℕ, ◌+◌, ◌<◌, ◌≤◌, min, List, [], ◌∷◌, ◌++◌, map, length, get_or, take, drop, set, None, sym, refl, ap, ◌∙◌, subst, ⊎_elim, arith, take-append-drop, length-take, drop-drop, drop-set-lt}
+use Rattle.std.proofs.Common.{◌≡◌, ℕ, ◌+◌, ◌<◌, ◌≤◌, min, List, [], ◌∷◌, ◌++◌, map, length, get_or, take, drop, set, None, Result, sym, refl, ap, ◌∙◌, subst, ⊎_elim, arith, take-append-drop, length-take, drop-drop, drop-set-lt}
 use mathlib.Core.List.{map-append}
 use lib.ListN.{length-map}
 use Rattle.std.proofs.lemmas.List.{take_more, take_more_set, get_or-map, take_all}
 use Rattle.std.proofs.lemmas.Bool.{cases_lt}
+use Rattle.faults.specs.declared.Fault.{Fault}
 use Rattle.faults.specs.declared.Refusal.TheVariants.{NoChain}
 use Rattle.faults.specs.Faults.{fault}
 use Rattle.states.specs.declared.state.State.{State}
@@ -33,7 +34,7 @@ module _ (size : ℕ) (says : ℕ → State → Truth) (put see : ℕ → State 
   answers-++ w (k ∷ a) b = ap (λ l. (step size says put see w k).1 ∷ l) (answers-++ (step size says put see w k).0 a b)
 
 -- the first i calls are performed
-pub record Sofar {L : Type 0} (size : L → ℕ) (says : L → ℕ → State → Truth) (language : L) (calls : List Call) (given : List Written) (i : ℕ) (c : Cabinet L) (written : List Written) : Type 0 where
+pub record Sofar {L : Type 0} (size : L → ℕ) (says : L → ℕ → State → Truth) (language : L) (calls : List Call) (given : List (Result Written Fault)) (i : ℕ) (c : Cabinet L) (written : List (Result Written Fault)) : Type 0 where
   pub same : c.language ≡ language
   pub held : world c ≡ run (size language) (says language) kept whole new (take i calls)
   pub told : take i written ≡ map shown (answers (size language) (says language) kept whole new (take i calls))
@@ -41,7 +42,7 @@ pub record Sofar {L : Type 0} (size : L → ℕ) (says : L → ℕ → State →
 
 module _ {L : Type 0} (size : L → ℕ) (says : L → ℕ → State → Truth) where
   -- one call more
-  once_more : (language : L) (calls : List Call) (given : List Written) (i : ℕ) (c d : Cabinet L) (written : List Written) (k : Call) (a : Written)
+  once_more : (language : L) (calls : List Call) (given : List (Result Written Fault)) (i : ℕ) (c d : Cabinet L) (written : List (Result Written Fault)) (k : Call) (a : Result Written Fault)
       → Sofar size says language calls given i c written → i < length calls → i < length written → get_or calls i k ≡ k → a ≡ shown (reply size says c k) → Follows size says c k d
       → Sofar size says language calls given (i + 1) d (set written i a)
   once_more language calls given i c d written k a s lc lw at is f =
@@ -61,7 +62,7 @@ module _ {L : Type 0} (size : L → ℕ) (says : L → ℕ → State → Truth) 
       }
 
   -- the same at the calls as they are made
-  pub call_more : (language : L) (calls : List Made) (given : List Written) (i : ℕ) (c d : Cabinet L) (written : List Written) (e : Made) (a : Written)
+  pub call_more : (language : L) (calls : List Made) (given : List (Result Written Fault)) (i : ℕ) (c d : Cabinet L) (written : List (Result Written Fault)) (e : Made) (a : Result Written Fault)
       → Sofar size says language (map asked calls) given i c written → i < length calls → i < length written
       → a ≡ shown (reply size says c (asked (get_or calls i e))) → Follows size says c (asked (get_or calls i e)) d
       → Sofar size says language (map asked calls) given (i + 1) d (set written i a)
@@ -76,15 +77,15 @@ module _ (size : ℕ) (says : ℕ → State → Truth) where
 
   unjustified : (past : List Call) (call : Call) → Comes size says past call → Same (replies size says past call ≡ Refused (fault NoChain 0)) ((c : List Grant) → Justifies size says past call c → ⊥)
   unjustified past (Draw caller h told) pass = (record_laws.runs size says whole kept).draw_refused (after size says past) caller h told pass
-  unjustified past (Issue caller h grantee x y mode told) pass = each ((record_laws.runs size says whole kept).issue_refused (after size says past) caller h grantee x y mode told pass)
-  unjustified past (Amend caller n x y mode told) pass = each ((record_laws.runs size says whole kept).amend_refused (after size says past) caller n x y mode told pass)
+  unjustified past (Issue caller h grantee terms) pass = each ((record_laws.runs size says whole kept).issue_refused (after size says past) caller h grantee terms pass)
+  unjustified past (Amend caller n terms) pass = each ((record_laws.runs size says whole kept).amend_refused (after size says past) caller n terms pass)
   unjustified past (Fit owners set) pass = absurd pass
   unjustified past (Withdraw caller n) pass = absurd pass
   unjustified past (Take h p) pass = absurd pass
   unjustified past (Leave h p) pass = absurd pass
   unjustified past (Return caller h) pass = absurd pass
 
-  promised : Lawful size says → (calls : List Call) (held : World) (given written : List Written)
+  promised : Lawful size says → (calls : List Call) (held : World) (given written : List (Result Written Fault))
       → held ≡ run size says kept whole new calls
       → written ≡ map shown (answers size says kept whole new calls) ++ drop (length calls) given
       → WholePromise size says calls held given written
@@ -106,7 +107,7 @@ take_min xs i n e =
     (λ (l : n ≤ length xs). let f : i ≡ n = omega (arith, e) in ap (λ k. take k xs) f) (cases_lt (length xs) n)
 
 pub finished : {L : Type 0} (size : L → ℕ) (says : L → ℕ → State → Truth) → ((l : L) → Lawful (size l) (says l))
-    → (l m : L) → l ≡ m → (calls : List Made) (given written : List Written) (i : ℕ) (c : Cabinet L)
+    → (l m : L) → l ≡ m → (calls : List Made) (given written : List (Result Written Fault)) (i : ℕ) (c : Cabinet L)
     → Sofar size says l (map asked calls) given i c written → i ≡ min (length calls) (length given)
     → WholePromise (size m) (says m) (take (length given) (map asked calls)) (world c) given written
 finished size says ok l m e calls given written i c s f =

@@ -1,4 +1,3 @@
-pub mod Slips
 pub mod Cabinets
 pub mod Runs
 pub mod Promise

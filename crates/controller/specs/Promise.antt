@@ -1,7 +1,8 @@
 -- The promise over whole runs: of any list of the eight calls on one cabinet from new, refused ones included, under every
 -- lawful condition language.
-use Rattle.std.specs.Prelude.{◌≡◌, ℕ, List, ◌++◌, map, length, drop, is_some, None, ◌≢◌}
+use Rattle.std.specs.Prelude.{◌≡◌, ℕ, List, ◌++◌, map, length, drop, is_some, None, Result, ◌≢◌}
 use Rattle.std.specs.List.{AllByRecursion}
+use Rattle.faults.specs.declared.Fault.{Fault}
 use Rattle.faults.specs.declared.Refusal.TheVariants.{NoChain}
 use Rattle.faults.specs.Faults.{fault}
 use Rattle.states.specs.declared.state.State.{State}
@@ -42,10 +43,10 @@ module _ (size : ℕ) (says : ℕ → State → Truth) where
   -- a call that asks for a chain comes to that question: no earlier check refuses it
   abbrev pub Comes : List Call → Call → Type 0
   Comes past (Draw caller h told) = first_fault (draw_before caller h (owner (after past) h) (state_of caller None told)) ≡ None
-  Comes past (Issue caller h grantee x y mode told) =
-      first_fault (issue_before size caller h (owner (after past) h) grantee x y (state_of caller None told) (after past).last (length (after past).grants)) ≡ None
-  Comes past (Amend caller n x y mode told) =
-      first_fault (amend_before size caller n x y (state_of caller None told) (after past).last (is_some (lookup (after past).grants n)) (grant_at (after past).grants n).grantor) ≡ None
+  Comes past (Issue caller h grantee terms) =
+      first_fault (issue_before size caller h (owner (after past) h) grantee terms.execute terms.onward (state_of caller None terms.report) (after past).last (length (after past).grants)) ≡ None
+  Comes past (Amend caller n terms) =
+      first_fault (amend_before size caller n terms.execute terms.onward (state_of caller None terms.report) (after past).last (is_some (lookup (after past).grants n)) (grant_at (after past).grants n).grantor) ≡ None
   Comes past (Fit owners set) = ⊥
   Comes past (Withdraw caller n) = ⊥
   Comes past (Take h p) = ⊥
@@ -55,8 +56,8 @@ module _ (size : ℕ) (says : ℕ → State → Truth) where
   -- c justifies what the call asks for: the draw, or the grant that it would record
   abbrev pub Justifies : List Call → Call → List Grant → Type 0
   Justifies past (Draw caller h told) c = Opens past caller h told c
-  Justifies past (Issue caller h grantee x y mode told) c = Backs past (issued size says whole kept (after past) caller h grantee x y mode told) c
-  Justifies past (Amend caller n x y mode told) c = Backs past (amended size says whole kept (after past) caller n x y mode told) c
+  Justifies past (Issue caller h grantee terms) c = Backs past (issued size says whole kept (after past) caller h grantee terms) c
+  Justifies past (Amend caller n terms) c = Backs past (amended size says whole kept (after past) caller n terms) c
   Justifies past (Fit owners set) c = ⊥
   Justifies past (Withdraw caller n) c = ⊥
   Justifies past (Take h p) c = ⊥
@@ -64,7 +65,7 @@ module _ (size : ℕ) (says : ℕ → State → Truth) where
   Justifies past (Return caller h) c = ⊥
 
   -- these calls were performed on a new cabinet; it then holds `held`, and the list of answers went from `given` to `written`
-  pub record WholePromise (calls : List Call) (held : World) (given written : List Written) : Type 0 where
+  pub record WholePromise (calls : List Call) (held : World) (given written : List (Result Written Fault)) : Type 0 where
     -- the cabinet's record is the plain record of the calls with kept states only, and its keys are where that record's are
     pub record_kept : held ≡ shrunk (after calls)
     -- each call answers as defined on the plain record; places behind the last answer are untouched

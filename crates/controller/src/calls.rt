@@ -1,35 +1,18 @@
 //! The calls on a cabinet.
-ghost use Rattle.std.specs.Prelude.{◌≡◌, ◌≤◌};
+ghost use Rattle.std.specs.Prelude.{◌≡◌};
 ghost use Rattle.plain.specs.Record.{Fit as fitting, Issue as issuing, Amend as amending, Withdraw as withdrawing, Draw as drawing, Take as taking, Leave as leaving, Return as returning, new as unfitted};
 ghost use Rattle.ledger.specs.Answers.{told, done};
 ghost use Rattle.ledger.specs.Ledgers.{standing_of};
 ghost use Rattle.controller.specs.Cabinets.{world, reply, Follows, slip_of, listed, spent};
 
 use crate::cabinet::Cabinet;
-use crate::slip::{RefusedSlip, Slip};
 use conditions::language::Language;
 use faults::Fault;
+use grants::terms::Terms;
 use ledger::held::Ledger;
-use ledger::terms::Terms;
-use loans::state::Event;
+use loans::slip::{RefusedSlip, Slip};
 use loans::table::Loans;
-use search::named::Named;
 use states::report::Report;
-
-/// The slip of a draw that is accepted; the numbers of its chain go into the caller's list.
-fn hand_out(hook: u8, person: u8, named: &Named, chain: &mut [u32; 8]) -> Slip
-    requires { named.now.length ≤ 8 }
-    ensures is { result ≡ record { hook = hook; person = person; length = named.now.length } }
-    ensures list { chain.new ≡ named.now.numbers }
-{
-    let numbers = named.numbers;
-    *chain = numbers;
-    Slip {
-        hook,
-        person,
-        length: named.length as u8,
-    }
-}
 
 impl<L: Language> Cabinet<L> {
     /// A new cabinet: unfitted, without a grant, every key in.
@@ -54,8 +37,8 @@ impl<L: Language> Cabinet<L> {
 
     /// Records a grant by the caller, if a chain justifies it, and answers its number.
     pub fn issue(&mut self, caller: u8, hook: u8, grantee: u8, terms: &Terms) -> Result<u32, Fault>
-        ensures is { result ≡ told (reply L.size L.says self.old (issuing caller hook grantee terms.now.execute terms.now.onward terms.now.mode terms.now.report)) }
-        ensures after { Follows L.size L.says self.old (issuing caller hook grantee terms.now.execute terms.now.onward terms.now.mode terms.now.report) self.new }
+        ensures is { result ≡ told (reply L.size L.says self.old (issuing caller hook grantee terms.now)) }
+        ensures after { Follows L.size L.says self.old (issuing caller hook grantee terms.now) self.new }
     {
         self.ledger
             .issue(&self.language, caller, hook, grantee, terms)
@@ -63,8 +46,8 @@ impl<L: Language> Cabinet<L> {
 
     /// Replaces the caller's own grant under new terms and a new number, which is the answer.
     pub fn amend(&mut self, caller: u8, number: u32, terms: &Terms) -> Result<u32, Fault>
-        ensures is { result ≡ told (reply L.size L.says self.old (amending caller number terms.now.execute terms.now.onward terms.now.mode terms.now.report)) }
-        ensures after { Follows L.size L.says self.old (amending caller number terms.now.execute terms.now.onward terms.now.mode terms.now.report) self.new }
+        ensures is { result ≡ told (reply L.size L.says self.old (amending caller number terms.now)) }
+        ensures after { Follows L.size L.says self.old (amending caller number terms.now) self.new }
     {
         self.ledger.amend(&self.language, caller, number, terms)
     }
@@ -91,24 +74,10 @@ impl<L: Language> Cabinet<L> {
         ensures after { Follows L.size L.says self.old (drawing caller hook report.now) self.new }
     {
         let named = self.ledger.chain_for(&self.language, caller, hook, report)?;
-        self.loans.happen(hook, Event::Draw(caller))?;
-        Ok(hand_out(hook, caller, &named, chain))
-    }
-
-    /// The promised key goes out.
-    fn take_key(&mut self, hook: u8, person: u8) -> Result<(), Fault>
-        ensures is { result ≡ done (reply L.size L.says self.old (taking hook person)) }
-        ensures after { Follows L.size L.says self.old (taking hook person) self.new }
-    {
-        self.loans.happen(hook, Event::Take(person))
-    }
-
-    /// The promised key stays in.
-    fn leave_key(&mut self, hook: u8, person: u8) -> Result<(), Fault>
-        ensures is { result ≡ done (reply L.size L.says self.old (leaving hook person)) }
-        ensures after { Follows L.size L.says self.old (leaving hook person) self.new }
-    {
-        self.loans.happen(hook, Event::Leave(person))
+        let slip = self.loans.draw(hook, caller, named.length as u8)?;
+        let numbers = named.numbers;
+        *chain = numbers;
+        Ok(slip)
     }
 
     /// Spends a slip: the key is out.
@@ -116,8 +85,7 @@ impl<L: Language> Cabinet<L> {
         ensures is { result ≡ spent slip (reply L.size L.says self.old (taking slip.hook slip.person)) }
         ensures after { Follows L.size L.says self.old (taking slip.hook slip.person) self.new }
     {
-        let happened = self.take_key(slip.hook, slip.person);
-        slip.spend(happened)
+        self.loans.take(slip)
     }
 
     /// Spends a slip: the key is in again.
@@ -125,8 +93,7 @@ impl<L: Language> Cabinet<L> {
         ensures is { result ≡ spent slip (reply L.size L.says self.old (leaving slip.hook slip.person)) }
         ensures after { Follows L.size L.says self.old (leaving slip.hook slip.person) self.new }
     {
-        let happened = self.leave_key(slip.hook, slip.person);
-        slip.spend(happened)
+        self.loans.leave(slip)
     }
 
     /// Brings the key of `hook`, which is out, in again.
@@ -135,7 +102,7 @@ impl<L: Language> Cabinet<L> {
         ensures after { Follows L.size L.says self.old (returning caller hook) self.new }
     {
         self.ledger.check_return(caller, hook)?;
-        self.loans.happen(hook, Event::Return)
+        self.loans.give_back(hook)
     }
 
     /// Whether the grant numbered `number` stands; refused where there is none.

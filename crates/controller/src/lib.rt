@@ -4,4 +4,3 @@
 pub mod cabinet;
 mod calls;
 pub mod run;
-pub mod slip;

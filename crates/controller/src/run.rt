@@ -1,15 +1,17 @@
 //! Whole runs: lists of calls on a new cabinet.
 ghost use Rattle.std.specs.Prelude.{◌≡◌, map, length, take};
 ghost use Rattle.controller.specs.Cabinets.{world, reply, Follows};
-ghost use Rattle.controller.specs.Runs.{asked, shown, number_shown, orphans_shown, done_shown, slip_shown, spent_shown};
+ghost use Rattle.controller.specs.declared.run.Answer.TheVariants as answers;
+ghost use Rattle.controller.specs.Runs.{asked, shown, written};
+ghost use Rattle.plain.specs.Record.{Draw as drawing};
 ghost use Rattle.controller.specs.Promise.{WholePromise};
 ghost use Rattle.plain.specs.Laws.{RecordLaws};
 
 use crate::cabinet::Cabinet;
-use crate::slip::{RefusedSlip, Slip};
 use conditions::language::Language;
 use faults::Fault;
-use ledger::terms::Terms;
+use grants::terms::Terms;
+use loans::state::Event;
 use states::report::Report;
 
 /// One call with its arguments. Take and leave name the hook and the person of a slip, so that slips
@@ -54,12 +56,11 @@ pub enum Call<'a> {
     },
 }
 
-/// What a call answered: that it is done, a refusal, the number of the new grant, the count of orphans, or
-/// the slip of a draw with the numbers of its chain, zeros behind.
-#[derive(Clone, Copy, Debug)]
+/// What a call that was not refused answered: that it is done, the number of the new grant, the count of
+/// orphans, or the slip of a draw with the numbers of its chain, zeros behind.
+#[derive(Clone, Copy, Debug, PartialEq, Eq)]
 pub enum Answer {
     Done,
-    Refused(Fault),
     Number(u32),
     Orphaned(u32),
     Slip {
@@ -70,113 +71,70 @@ pub enum Answer {
     },
 }
 
-fn number_shown(r: Result<u32, Fault>) -> Answer
-    ensures { result ≡ number_shown r }
+fn number_told(told: Result<u32, Fault>) -> Result<Answer, Fault>
+    ensures { result ≡ written answers.Number told }
 {
-    match r {
-        Ok(number) => Answer::Number(number),
-        Err(fault) => Answer::Refused(fault),
-    }
+    told.map(|number| Answer::Number(number))
 }
 
-fn orphans_shown(r: Result<u32, Fault>) -> Answer
-    ensures { result ≡ orphans_shown r }
+fn orphans_told(told: Result<u32, Fault>) -> Result<Answer, Fault>
+    ensures { result ≡ written answers.Orphaned told }
 {
-    match r {
-        Ok(count) => Answer::Orphaned(count),
-        Err(fault) => Answer::Refused(fault),
-    }
+    told.map(|count| Answer::Orphaned(count))
 }
 
-fn done_shown(r: Result<(), Fault>) -> Answer
-    ensures { result ≡ done_shown r }
+fn done_told(told: Result<(), Fault>) -> Result<Answer, Fault>
+    ensures { result ≡ written (λ _. answers.Done) told }
 {
-    match r {
-        Ok(()) => Answer::Done,
-        Err(fault) => Answer::Refused(fault),
-    }
-}
-
-/// A draw's answer in numbers; its slip ends here, since a later call of the run makes its own.
-fn slip_shown(r: Result<Slip, Fault>, numbers: [u32; 8]) -> Answer
-    ensures { result ≡ slip_shown r numbers }
-{
-    match r {
-        Ok(slip) => {
-            let Slip {
-                hook,
-                person,
-                length,
-            } = slip;
-            Answer::Slip {
-                hook,
-                person,
-                length,
-                numbers,
-            }
-        }
-        Err(fault) => Answer::Refused(fault),
-    }
-}
-
-/// The answer to taking or leaving; a slip that came back ends here.
-fn spent_shown(r: Result<(), RefusedSlip>) -> Answer
-    ensures { result ≡ spent_shown r }
-{
-    match r {
-        Ok(()) => Answer::Done,
-        Err(refused) => {
-            let RefusedSlip { fault, slip } = refused;
-            let Slip {
-                hook: _,
-                person: _,
-                length: _,
-            } = slip;
-            Answer::Refused(fault)
-        }
-    }
+    told.map(|()| Answer::Done)
 }
 
 impl<L: Language> Cabinet<L> {
+    /// A draw whose slip ends at once: a later call of the run names hook and person itself.
+    fn draw_on_record(&mut self, caller: u8, hook: u8, report: &Report) -> Result<Answer, Fault>
+        ensures is { result ≡ shown (reply L.size L.says self.old (drawing caller hook report.now)) }
+        ensures after { Follows L.size L.says self.old (drawing caller hook report.now) self.new }
+    {
+        let named = self.ledger.chain_for(&self.language, caller, hook, report)?;
+        self.loans.happen(hook, Event::Draw(caller))?;
+        let numbers = named.numbers;
+        Ok(Answer::Slip {
+            hook,
+            person: caller,
+            length: named.length as u8,
+            numbers,
+        })
+    }
+
     /// One call of a run.
-    fn apply(&mut self, call: &Call<'_>) -> Answer
+    fn apply(&mut self, call: &Call<'_>) -> Result<Answer, Fault>
         ensures is { result ≡ shown (reply L.size L.says self.old (asked call.now)) }
         ensures after { Follows L.size L.says self.old (asked call.now) self.new }
     {
         match *call {
-            Call::Fit { owners, kept } => done_shown(self.fit(owners, kept)),
+            Call::Fit { owners, kept } => done_told(self.fit(owners, kept)),
             Call::Issue {
                 caller,
                 hook,
                 grantee,
                 terms,
-            } => number_shown(self.issue(caller, hook, grantee, &terms)),
+            } => number_told(self.issue(caller, hook, grantee, &terms)),
             Call::Amend {
                 caller,
                 number,
                 terms,
-            } => number_shown(self.amend(caller, number, &terms)),
-            Call::Withdraw { caller, number } => orphans_shown(self.withdraw(caller, number)),
+            } => number_told(self.amend(caller, number, &terms)),
+            Call::Withdraw { caller, number } => orphans_told(self.withdraw(caller, number)),
             Call::Draw {
                 caller,
                 hook,
                 report,
-            } => {
-                let mut numbers = [0; 8];
-                let slip = self.draw(caller, hook, &report, &mut numbers);
-                slip_shown(slip, numbers)
-            }
-            Call::Take { hook, person } => spent_shown(self.take(Slip {
-                hook,
-                person,
-                length: 0,
-            })),
-            Call::Leave { hook, person } => spent_shown(self.leave(Slip {
-                hook,
-                person,
-                length: 0,
-            })),
-            Call::Return { caller, hook } => done_shown(self.give_back(caller, hook)),
+            } => self.draw_on_record(caller, hook, &report),
+            Call::Take { hook, person } => done_told(self.loans.happen(hook, Event::Take(person))),
+            Call::Leave { hook, person } => done_told(
+                self.loans.happen(hook, Event::Leave(person)),
+            ),
+            Call::Return { caller, hook } => done_told(self.give_back(caller, hook)),
         }
     }
 }
@@ -184,15 +142,19 @@ impl<L: Language> Cabinet<L> {
 /// Performs calls on a new cabinet, as many as there are places for answers, and hands the cabinet
 /// back. Its contract is the promise over whole runs, with the other laws of the plain record. The slips of the run end with it: a key that its
 /// calls draw and neither take nor leave stays promised.
-pub fn replay<L: Language>(language: L, calls: &[Call<'_>], answers: &mut [Answer]) -> Cabinet<L>
+pub fn replay<L: Language>(
+    language: L,
+    calls: &[Call<'_>],
+    answers: &mut [Result<Answer, Fault>],
+) -> Cabinet<L>
     ensures language { result.language ≡ language }
     ensures promise { WholePromise (L.size language) (L.says language) (take (length answers.old) (map asked calls.now)) (world result) answers.old answers.new }
     ensures laws { RecordLaws }
 {
     let mut cabinet = Cabinet::new(language);
     let n = calls.len().min(answers.len());
-    for i in 0..n {
-        answers[i] = cabinet.apply(&calls[i]);
+    for (i, call) in calls[..n].iter().enumerate() {
+        answers[i] = cabinet.apply(call);
     }
     cabinet
 }

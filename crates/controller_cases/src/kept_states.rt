@@ -5,7 +5,7 @@ use conditions::language::Language;
 use controller::cabinet::Cabinet;
 use faults::Fault;
 use grants::Mode;
-use ledger::terms::Terms;
+use grants::terms::Terms;
 use states::report::Report;
 use std::test::Fail;
 

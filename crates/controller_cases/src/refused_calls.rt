@@ -4,7 +4,7 @@ use crate::visits::{fetch, look};
 use controller::cabinet::Cabinet;
 use faults::Fault;
 use grants::Mode;
-use ledger::terms::Terms;
+use grants::terms::Terms;
 use states::report::Report;
 use std::process::Abort;
 use std::test::Fail;

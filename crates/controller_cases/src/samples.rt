@@ -4,7 +4,7 @@ use conditions::language::Language;
 use controller::cabinet::Cabinet;
 use faults::{Fault, Layer};
 use grants::Mode;
-use ledger::terms::Terms;
+use grants::terms::Terms;
 use sheets::row::Row;
 use sheets::sheet::Sheet;
 use states::report::Report;

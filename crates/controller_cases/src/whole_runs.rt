@@ -9,7 +9,7 @@ use conditions::language::Language;
 use controller::run::{Answer, Call, replay};
 use faults::{Fault, Layer, Refusal};
 use grants::Mode;
-use ledger::terms::Terms;
+use grants::terms::Terms;
 use states::report::Report;
 use std::process::Abort;
 use std::test::Fail;

@@ -26,7 +26,7 @@ use Rattle.register.specs.Held.{held, numbers}
 use Rattle.grants.specs.declared.Grant.{Grant}
 use Rattle.ledger.specs.declared.held.Ledger.{Ledger}
 use Rattle.grants.specs.Blank.{blank}
-use Rattle.ledger.specs.declared.terms.Terms.{Terms}
+use Rattle.grants.specs.declared.terms.Terms.{Terms}
 use Rattle.ledger.specs.Answers.{unless}
 use Rattle.ledger.specs.Ledgers.{owner_in, given, issue_on, amend_on, chain_on_record, named_on}
 

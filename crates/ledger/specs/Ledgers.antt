@@ -19,7 +19,7 @@ use Rattle.search.specs.declared.named.Named.{Named}
 use Rattle.search.specs.Answers.{named_of}
 use Rattle.plain.specs.Record.{World, Call, Answer, Done, judged_by, lookup, first_fault, fit_checks, chainless, issue_checks, amend_checks, draw_before, step, whole}
 use Rattle.ledger.specs.declared.held.Ledger.{Ledger}
-use Rattle.ledger.specs.declared.terms.Terms.{Terms}
+use Rattle.grants.specs.declared.terms.Terms.{Terms}
 use Rattle.ledger.specs.Answers.{unless}
 
 -- the cabinet that has this ledger, and its hooks in the states hs

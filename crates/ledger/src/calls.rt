@@ -12,13 +12,13 @@ ghost use Rattle.ledger.specs.Sweeps.{Standing, stay_from, settled};
 
 use crate::held::Ledger;
 use crate::sweeps::{orphans, staying};
-use crate::terms::Terms;
 use call_checks::{
     check_chain, check_parties, check_room, check_terms, check_visit, check_withdraw,
 };
 use conditions::language::Language;
 use faults::{Fault, Refusal};
 use grants::Grant;
+use grants::terms::Terms;
 use plain::{check_fitting, check_grantor, check_hook, check_numbers, check_person};
 use register::table::Register;
 use search::named::Named;
@@ -131,8 +131,8 @@ impl Ledger {
         grantee: u8,
         terms: &Terms,
     ) -> Result<u32, Fault>
-        ensures is { (hs : List HookState) → result ≡ told (step_on (L.size language.now) (L.says language.now) self.old hs (issuing caller hook grantee terms.now.execute terms.now.onward terms.now.mode terms.now.report)).1 }
-        ensures after { (hs : List HookState) → world_with self.new hs ≡ (step_on (L.size language.now) (L.says language.now) self.old hs (issuing caller hook grantee terms.now.execute terms.now.onward terms.now.mode terms.now.report)).0 }
+        ensures is { (hs : List HookState) → result ≡ told (step_on (L.size language.now) (L.says language.now) self.old hs (issuing caller hook grantee terms.now)).1 }
+        ensures after { (hs : List HookState) → world_with self.new hs ≡ (step_on (L.size language.now) (L.says language.now) self.old hs (issuing caller hook grantee terms.now)).0 }
     {
         let grant = self.grant_by(caller, hook, grantee, terms);
         self.check_issue(language, &grant, &terms.report)?;
@@ -201,8 +201,8 @@ impl Ledger {
         number: u32,
         terms: &Terms,
     ) -> Result<u32, Fault>
-        ensures is { (hs : List HookState) → result ≡ told (step_on (L.size language.now) (L.says language.now) self.old hs (amending caller number terms.now.execute terms.now.onward terms.now.mode terms.now.report)).1 }
-        ensures after { (hs : List HookState) → world_with self.new hs ≡ (step_on (L.size language.now) (L.says language.now) self.old hs (amending caller number terms.now.execute terms.now.onward terms.now.mode terms.now.report)).0 }
+        ensures is { (hs : List HookState) → result ≡ told (step_on (L.size language.now) (L.says language.now) self.old hs (amending caller number terms.now)).1 }
+        ensures after { (hs : List HookState) → world_with self.new hs ≡ (step_on (L.size language.now) (L.says language.now) self.old hs (amending caller number terms.now)).0 }
     {
         let old = self.grants.get(number);
         let known = old.unwrap_or(Grant::blank());

@@ -4,4 +4,3 @@
 mod calls;
 pub mod held;
 mod sweeps;
-pub mod terms;

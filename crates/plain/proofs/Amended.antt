@@ -17,12 +17,12 @@ use Rattle.plain.proofs.Runs.{fine_run, fine_new, others_stay}
 use Rattle.plain.proofs.Swept.{swept_rid}
 
 pub amended_stands : (size : ℕ) (means : ℕ → State → Truth) (put see : ℕ → State → State) → AmendedStands size means put see
-amended_stands size means put see past caller n x y mode told e =
+amended_stands size means put see past caller n terms e =
     let w = run size means put see new past in
     let f = fine_run size means put see past new fine_new in
-    let k : Call = Amend caller n x y mode told in
+    let k : Call = Amend caller n terms in
     let st = seen size means put see w in
-    let g = amended size means put see w caller n x y mode told in
+    let g = amended size means put see w caller n terms in
     let a = accepted w (checks size means put see w k) (done size means put see w k) (ap is_refusal e) in
     let here = off _ _ a.0.1.1.1.1.0 in
     let mine = off _ _ a.0.1.1.1.1.1.0 in

@@ -39,8 +39,8 @@ module _ (size : ℕ) (means : ℕ → State → Truth) (put see : ℕ → State
 
   settled_done : (w : World) (k : Call) → Fine w → Settled w → Passed (checks size means put see w k) → Settled (done size means put see w k).0
   settled_done w (Fit owners set) f e a g i = absurd (subst (In g) (f.bare (off _ _ a.0)) i)
-  settled_done w (Issue caller h grantee x y mode told) f e a b i =
-      let g = issued size means put see w caller h grantee x y mode told in
+  settled_done w (Issue caller h grantee terms) f e a b i =
+      let g = issued size means put see w caller h grantee terms in
       stays_more w w.grants g b
       (⊎_elim
       (λ j. e b j)
@@ -49,7 +49,7 @@ module _ (size : ℕ) (means : ℕ → State → Truth) (put see : ℕ → State
       (λ q. subst (λ u. stays size means put see w w.grants u ≡ true) q (or_right (is_resting g.mode) (stands_on size means put see w w.grants g) (not-false (stands_on size means put see w w.grants g) (off _ _ a.1.1.1.1.1.1.1.1.1.0))))
       (λ z. absurd z) j)
       (in_append b w.grants (g ∷ []) i))
-  settled_done w (Amend caller n x y mode told) f e a g i = swept_settled w (without number_of n w.grants ++ (amended size means put see w caller n x y mode told ∷ [])) g i
+  settled_done w (Amend caller n terms) f e a g i = swept_settled w (without number_of n w.grants ++ (amended size means put see w caller n terms ∷ [])) g i
   settled_done w (Withdraw caller n) f e a g i = swept_settled w (without number_of n w.grants) g i
   settled_done w (Draw caller h told) f e a g i = e g i
   settled_done w (Take h p) f e a g i = e g i

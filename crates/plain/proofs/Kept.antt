@@ -8,6 +8,7 @@ use Rattle.states.specs.declared.report.Report.{Report}
 use Rattle.states.specs.Reports.{state_of}
 use Rattle.states.specs.States.{kept}
 use Rattle.grants.specs.declared.Grant.{Grant}
+use Rattle.grants.specs.declared.terms.Terms.{Terms}
 use Rattle.grants.specs.declared.Mode.{Mode}
 use Rattle.grants.specs.Blank.{blank}
 use Rattle.conditions.specs.declared.truth.Truth.{Truth}
@@ -171,23 +172,23 @@ module _ (size : ℕ) (means : ℕ → State → Truth) where
     left_cut : (n : ℕ) → left size means kept whole (shrunk w) n ≡ map (shrink w.kept) (left size means whole kept w n)
     left_cut n = ap (swept size means kept whole (shrunk w)) (without_cut means w.kept w.grants n) ∙ swept_cut (without number_of n w.grants)
 
-    amended_cut : (caller n x y : ℕ) (mode : Mode) (told : Report) → amended size means kept whole (shrunk w) caller n x y mode told ≡ shrink w.kept (amended size means whole kept w caller n x y mode told)
-    amended_cut caller n x y mode told =
+    amended_cut : (caller n : ℕ) (terms : Terms) → amended size means kept whole (shrunk w) caller n terms ≡ shrink w.kept (amended size means whole kept w caller n terms)
+    amended_cut caller n terms =
         let hook = at_cut means w.kept (λ (g : Grant). g.hook) (λ g. refl) w.grants n in
         let grantee = at_cut means w.kept (λ (g : Grant). g.grantee) (λ g. refl) w.grants n in
-        λ i. issued size means kept whole (shrunk w) caller (hook i) (grantee i) x y mode told
+        λ i. issued size means kept whole (shrunk w) caller (hook i) (grantee i) terms
 
     checks_cut : (k : Call) → checks size means kept whole (shrunk w) k ≡ checks size means whole kept w k
     checks_cut (Fit owners set) = refl
-    checks_cut (Issue caller h grantee x y mode told) =
+    checks_cut (Issue caller h grantee terms) =
         let e = length-map w.grants (shrink w.kept) in
-        let f = stands_cut means w.kept w.grants (owner w) (issued size means whole kept w caller h grantee x y mode told) in
-        λ i. issue_checks size caller h (owner w h) grantee x y (state_of caller None told) w.last (e i) (f i)
-    checks_cut (Amend caller n x y mode told) =
+        let f = stands_cut means w.kept w.grants (owner w) (issued size means whole kept w caller h grantee terms) in
+        λ i. issue_checks size caller h (owner w h) grantee terms.execute terms.onward (state_of caller None terms.report) w.last (e i) (f i)
+    checks_cut (Amend caller n terms) =
         let e = there_cut means w.kept w.grants n in
         let f = at_cut means w.kept (λ (g : Grant). g.grantor) (λ g. refl) w.grants n in
-        let g = ap (stands_on size means kept whole (shrunk w) (map (shrink w.kept) w.grants)) (amended_cut caller n x y mode told) ∙ stands_cut means w.kept w.grants (owner w) (amended size means whole kept w caller n x y mode told) in
-        λ i. amend_checks size caller n x y (state_of caller None told) w.last (e i) (f i) (g i)
+        let g = ap (stands_on size means kept whole (shrunk w) (map (shrink w.kept) w.grants)) (amended_cut caller n terms) ∙ stands_cut means w.kept w.grants (owner w) (amended size means whole kept w caller n terms) in
+        λ i. amend_checks size caller n terms.execute terms.onward (state_of caller None terms.report) w.last (e i) (f i) (g i)
     checks_cut (Withdraw caller n) =
         let e = there_cut means w.kept w.grants n in
         let f = at_cut means w.kept (λ (g : Grant). g.grantor) (λ g. refl) w.grants n in
@@ -207,12 +208,12 @@ module _ (size : ℕ) (means : ℕ → State → Truth) where
     done_cut (Fit owners set) f a =
         let none = f.bare (off _ _ a.0) in
         λ i. (record { fitted = true; owners = owners; kept = set; last = w.last; grants = (ap (map (shrink w.kept)) none ∙ ap (map (shrink set)) (sym none)) i; hooks = w.hooks }, Done)
-    done_cut (Issue caller h grantee x y mode told) f a =
-        λ i. (with_grants w (w.last + 1) (sym (map_append (shrink w.kept) w.grants (issued size means whole kept w caller h grantee x y mode told ∷ [])) i), Number (w.last + 1))
-    done_cut (Amend caller n x y mode told) f a =
-        let g = amended size means whole kept w caller n x y mode told in
-        let e : without number_of n (map (shrink w.kept) w.grants) ++ (amended size means kept whole (shrunk w) caller n x y mode told ∷ []) ≡ map (shrink w.kept) (without number_of n w.grants ++ (g ∷ [])) =
-        (λ i. without_cut means w.kept w.grants n i ++ (amended_cut caller n x y mode told i ∷ [])) ∙ sym (map_append (shrink w.kept) (without number_of n w.grants) (g ∷ [])) in
+    done_cut (Issue caller h grantee terms) f a =
+        λ i. (with_grants w (w.last + 1) (sym (map_append (shrink w.kept) w.grants (issued size means whole kept w caller h grantee terms ∷ [])) i), Number (w.last + 1))
+    done_cut (Amend caller n terms) f a =
+        let g = amended size means whole kept w caller n terms in
+        let e : without number_of n (map (shrink w.kept) w.grants) ++ (amended size means kept whole (shrunk w) caller n terms ∷ []) ≡ map (shrink w.kept) (without number_of n w.grants ++ (g ∷ [])) =
+        (λ i. without_cut means w.kept w.grants n i ++ (amended_cut caller n terms i ∷ [])) ∙ sym (map_append (shrink w.kept) (without number_of n w.grants) (g ∷ [])) in
         let q = ap (swept size means kept whole (shrunk w)) e ∙ swept_cut (without number_of n w.grants ++ (g ∷ [])) in
         λ i. (with_grants w (w.last + 1) (q i), Number (w.last + 1))
     done_cut (Withdraw caller n) f a =

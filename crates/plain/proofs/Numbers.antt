@@ -37,8 +37,8 @@ counted_more last then Done more h c = same_last last then more h c
 module _ (size : ℕ) (means : ℕ → State → Truth) (put see : ℕ → State → State) where
   next_done : (w : World) (k : Call) → Next w.last (done size means put see w k).1 (done size means put see w k).0.last
   next_done w (Fit owners kept) = refl
-  next_done w (Issue caller h grantee x y mode told) = (refl, refl)
-  next_done w (Amend caller n x y mode told) = (refl, refl)
+  next_done w (Issue caller h grantee terms) = (refl, refl)
+  next_done w (Amend caller n terms) = (refl, refl)
   next_done w (Withdraw caller n) = refl
   next_done w (Draw caller h told) = refl
   next_done w (Take h p) = refl

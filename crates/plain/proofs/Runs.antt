@@ -56,8 +56,8 @@ module _ (size : ℕ) (means : ℕ → State → Truth) (put see : ℕ → State
 
   fine_done : (w : World) (k : Call) → Fine w → Passed (checks size means put see w k) → Fine (done size means put see w k).0
   fine_done w (Fit owners kept) f a = record { rising = f.rising; low = f.low; few = f.few; spent = f.spent; unowned = λ e. absurd (true≢false e); bare = λ e. absurd (true≢false e) }
-  fine_done w (Issue caller h grantee x y mode told) f a =
-      let g = issued size means put see w caller h grantee x y mode told in
+  fine_done w (Issue caller h grantee terms) f a =
+      let g = issued size means put see w caller h grantee terms in
       let l = leb-false 1000000 w.last (off _ _ a.1.1.1.1.1.1.1.0) in
       let m = leb-false 96 (length w.grants) (off _ _ a.1.1.1.1.1.1.1.1.0) in
       let e = length-append w.grants (g ∷ []) in
@@ -69,8 +69,8 @@ module _ (size : ℕ) (means : ℕ → State → Truth) (put see : ℕ → State
         unowned = f.unowned;
         bare = λ e. absurd (eqb-false (owner w h) 0 (or_parts (ltb 31 h) (eqb (owner w h) 0) (off _ _ a.1.1.0)).1 (f.unowned e h));
       }
-  fine_done w (Amend caller n x y mode told) f a =
-      let g = amended size means put see w caller n x y mode told in
+  fine_done w (Amend caller n terms) f a =
+      let g = amended size means put see w caller n terms in
       let rest = without number_of n w.grants in
       let r = rest ++ (g ∷ []) in
       let lo = all_without number_of n (λ (b : Grant). b.number ≤ w.last) w.grants f.low in

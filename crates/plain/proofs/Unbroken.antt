@@ -35,11 +35,11 @@ module _ (size : ℕ) (means : ℕ → State → Truth) (put see : ℕ → State
         let o = chain_owner w.grants h (owner w h) c q x.0 in
         let z = f.unowned (off _ _ a.0) h in
         absurd (omega (arith, o.0, z))
-    held_done w (Issue caller h' grantee x' y mode told) b f x a =
-        let g = issued size means put see w caller h' grantee x' y mode told in
+    held_done w (Issue caller h' grantee terms) b f x a =
+        let g = issued size means put see w caller h' grantee terms in
         (chain_on w.grants (w.grants ++ (g ∷ [])) h (owner w h) c q (λ e i j. in_left e w.grants (g ∷ []) j) x.0, x.1, x.2)
-    held_done w (Amend caller n x' y mode told) b f x a =
-        let g = amended size means put see w caller n x' y mode told in
+    held_done w (Amend caller n terms) b f x a =
+        let g = amended size means put see w caller n terms in
         let rest = without number_of n w.grants in
         let here = off _ _ a.1.1.1.1.0 in
         let mine = off _ _ a.1.1.1.1.1.0 in

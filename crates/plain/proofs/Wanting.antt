@@ -35,15 +35,15 @@ module _ (size : ℕ) (means : ℕ → State → Truth) (put see : ℕ → State
       (λ r c x. both.0 r (c, x), λ none. both.1 (λ x. none x.0 x.1))
 
   pub issue_refused : IssueRefused size means put see w
-  issue_refused caller h grantee x y mode told pass =
-      let g = issued size means put see w caller h grantee x y mode told in
-      for_want w (issue_before size caller h (owner w h) grantee x y (state_of caller None told) w.last (length w.grants)) [] (stands_on size means put see w w.grants g) (done size means put see w (Issue caller h grantee x y mode told))
+  issue_refused caller h grantee terms pass =
+      let g = issued size means put see w caller h grantee terms in
+      for_want w (issue_before size caller h (owner w h) grantee terms.execute terms.onward (state_of caller None terms.report) w.last (length w.grants)) [] (stands_on size means put see w w.grants g) (done size means put see w (Issue caller h grantee terms))
       (decides_stands means (seen size means put see w) w.grants (owner w) g) pass tt (λ e. let z : ◌≡◌ {A = ℕ} 0 1 = cc e in omega (arith, z))
 
   pub amend_refused : AmendRefused size means put see w
-  amend_refused caller n x y mode told pass =
-      let g = amended size means put see w caller n x y mode told in
-      for_want w (amend_before size caller n x y (state_of caller None told) w.last (is_some (lookup w.grants n)) (grant_at w.grants n).grantor) [] (stands_on size means put see w w.grants g) (done size means put see w (Amend caller n x y mode told))
+  amend_refused caller n terms pass =
+      let g = amended size means put see w caller n terms in
+      for_want w (amend_before size caller n terms.execute terms.onward (state_of caller None terms.report) w.last (is_some (lookup w.grants n)) (grant_at w.grants n).grantor) [] (stands_on size means put see w w.grants g) (done size means put see w (Amend caller n terms))
       (decides_stands means (seen size means put see w) w.grants (owner w) g) pass tt (λ e. let z : ◌≡◌ {A = ℕ} 0 1 = cc e in omega (arith, z))
 
   pub draw_names : Rising w.grants → DrawNames size means put see w

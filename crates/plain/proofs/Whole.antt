@@ -59,16 +59,16 @@ all_more r g a b = in_all Good (r ++ (g ∷ [])) (λ x i. ⊎_elim (all_in Good 
 module _ (size : ℕ) (means : ℕ → State → Truth) where
   ranged_done : (w : World) (k : Call) → Ranged w → Passed (checks size means whole kept w k) → Ranged (done size means whole kept w k).0
   ranged_done w (Fit owners set) g a = g
-  ranged_done w (Issue p h q x y mode told) g a =
+  ranged_done w (Issue p h q terms) g a =
       let receiver = a_person q (off _ _ a.1.0) in
-      all_more w.grants (issued size means whole kept w p h q x y mode told) g (with_receiver p q told receiver (inside (state_of p None told) a.1.1.1.0), receiver)
-  ranged_done w (Amend p n x y mode told) g a =
+      all_more w.grants (issued size means whole kept w p h q terms) g (with_receiver p q terms.report receiver (inside (state_of p None terms.report) a.1.1.1.0), receiver)
+  ranged_done w (Amend p n terms) g a =
       let old = grant_at w.grants n in
       let receiver = (all_in Good w.grants g old (there w.grants n (off _ _ a.1.1.1.1.0)).1).1 in
-      let new = amended size means whole kept w p n x y mode told in
+      let new = amended size means whole kept w p n terms in
       let rest = without number_of n w.grants in
       all_keep Good (stays size means whole kept w (rest ++ (new ∷ []))) (rest ++ (new ∷ []))
-      (all_more rest new (all_without number_of n Good w.grants g) (with_receiver p old.grantee told receiver (inside (state_of p None told) a.1.0), receiver))
+      (all_more rest new (all_without number_of n Good w.grants g) (with_receiver p old.grantee terms.report receiver (inside (state_of p None terms.report) a.1.0), receiver))
   ranged_done w (Withdraw p n) g a =
       let rest = without number_of n w.grants in
       all_keep Good (stays size means whole kept w rest) rest (all_without number_of n Good w.grants g)

@@ -9,6 +9,7 @@ use Rattle.states.specs.declared.report.Report.{Report}
 use Rattle.states.specs.Reports.{state_of}
 use Rattle.states.specs.States.{InRange, kept}
 use Rattle.grants.specs.declared.Grant.{Grant}
+use Rattle.grants.specs.declared.terms.Terms.{Terms}
 use Rattle.grants.specs.declared.Mode.{Mode}
 use Rattle.grants.specs.declared.Mode.TheVariants.{Expiring}
 use Rattle.conditions.specs.declared.truth.Truth.{Truth}
@@ -79,17 +80,17 @@ module _ (size : ℕ) (means : ℕ → State → Truth) (put see : ℕ → State
 
   abbrev pub IssueRefused : World → Type 0
   IssueRefused w =
-      (caller h grantee x y : ℕ) (mode : Mode) (told : Report)
-      → first_fault (issue_before size caller h (owner w h) grantee x y (state_of caller None told) w.last (length w.grants)) ≡ None
-      → Same ((step size means put see w (Issue caller h grantee x y mode told)).1 ≡ Refused (fault NoChain 0))
-      (Rests means (seen size means put see w) w.grants (owner w) (issued size means put see w caller h grantee x y mode told))
+      (caller h grantee : ℕ) (terms : Terms)
+      → first_fault (issue_before size caller h (owner w h) grantee terms.execute terms.onward (state_of caller None terms.report) w.last (length w.grants)) ≡ None
+      → Same ((step size means put see w (Issue caller h grantee terms)).1 ≡ Refused (fault NoChain 0))
+      (Rests means (seen size means put see w) w.grants (owner w) (issued size means put see w caller h grantee terms))
 
   abbrev pub AmendRefused : World → Type 0
   AmendRefused w =
-      (caller n x y : ℕ) (mode : Mode) (told : Report)
-      → first_fault (amend_before size caller n x y (state_of caller None told) w.last (is_some (lookup w.grants n)) (grant_at w.grants n).grantor) ≡ None
-      → Same ((step size means put see w (Amend caller n x y mode told)).1 ≡ Refused (fault NoChain 0))
-      (Rests means (seen size means put see w) w.grants (owner w) (amended size means put see w caller n x y mode told))
+      (caller n : ℕ) (terms : Terms)
+      → first_fault (amend_before size caller n terms.execute terms.onward (state_of caller None terms.report) w.last (is_some (lookup w.grants n)) (grant_at w.grants n).grantor) ≡ None
+      → Same ((step size means put see w (Amend caller n terms)).1 ≡ Refused (fault NoChain 0))
+      (Rests means (seen size means put see w) w.grants (owner w) (amended size means put see w caller n terms))
 
   -- and where the key is in, such a draw names the least chain that serves it
   abbrev pub DrawNames : World → Type 0
@@ -102,11 +103,11 @@ module _ (size : ℕ) (means : ℕ → State → Truth) (put see : ℕ → State
   -- an accepted amendment's grant is on the record that it leaves, and stands there
   abbrev pub AmendedStands : Type 0
   AmendedStands =
-      (past : List Call) (caller n x y : ℕ) (mode : Mode) (told : Report)
+      (past : List Call) (caller n : ℕ) (terms : Terms)
       → let w = run size means put see new past in
-      let v = (step size means put see w (Amend caller n x y mode told)).0 in
-      let g = amended size means put see w caller n x y mode told in
-      (step size means put see w (Amend caller n x y mode told)).1 ≡ Number (w.last + 1)
+      let v = (step size means put see w (Amend caller n terms)).0 in
+      let g = amended size means put see w caller n terms in
+      (step size means put see w (Amend caller n terms)).1 ≡ Number (w.last + 1)
       → In g v.grants × Stands means (seen size means put see v) v.grants (owner v) g
 
   -- how many grants, other than the one numbered n, stand on the record and not on q

@@ -12,6 +12,7 @@ use Rattle.states.specs.Ranges.{range_check}
 use Rattle.grants.specs.declared.Grant.{Grant}
 use Rattle.grants.specs.declared.Mode.{Mode}
 use Rattle.grants.specs.declared.Mode.TheVariants.{Expiring, Resting}
+use Rattle.grants.specs.declared.terms.Terms.{Terms}
 use Rattle.grants.specs.Blank.{blank}
 use Rattle.conditions.specs.declared.truth.Truth.{Truth}
 use Rattle.numbered.specs.Rows.{row_of, without}
@@ -25,8 +26,8 @@ use Rattle.chains.specs.Search.{is_person, stands, least_chain}
 -- the eight calls, each by its caller; take and leave are by the slip's person, of whom they name hook and person
 pub data Call : Type 0 where
   Fit : (owners : List ℕ) (kept : ℕ) → Call
-  Issue : (caller hook grantee execute onward : ℕ) (mode : Mode) (told : Report) → Call
-  Amend : (caller number execute onward : ℕ) (mode : Mode) (told : Report) → Call
+  Issue : (caller hook grantee : ℕ) (terms : Terms) → Call
+  Amend : (caller number : ℕ) (terms : Terms) → Call
   Withdraw : (caller number : ℕ) → Call
   Draw : (caller hook : ℕ) (told : Report) → Call
   Take : (hook person : ℕ) → Call
@@ -59,8 +60,8 @@ new = record { fitted = false; owners = replicate 32 0; kept = 0; last = 0; gran
 -- who makes a call; fitting is anybody's
 abbrev pub By : ℕ → Call → Type 0
 By p (Fit owners kept) = Unit {0}
-By p (Issue caller hook grantee execute onward mode told) = caller ≡ p
-By p (Amend caller number execute onward mode told) = caller ≡ p
+By p (Issue caller hook grantee terms) = caller ≡ p
+By p (Amend caller number terms) = caller ≡ p
 By p (Withdraw caller number) = caller ≡ p
 By p (Draw caller hook told) = caller ≡ p
 By p (Take hook person) = person ≡ p
@@ -226,12 +227,12 @@ module _ (size : ℕ) (means : ℕ → State → Truth) (put see : ℕ → State
   swept w r = keep_if (λ g. is_resting g.mode || stands_on w r g) r
 
   -- the grant that an issue makes, and an amendment, which keeps hook and grantee of the old one
-  abbrev pub issued : World → ℕ → ℕ → ℕ → ℕ → ℕ → Mode → Report → Grant
-  issued w caller h grantee x y mode told =
-      record { number = w.last + 1; hook = h; grantor = caller; grantee = grantee; execute = x; onward = y; mode = mode; state = put w.kept (state_of caller (Some grantee) told) }
+  abbrev pub issued : World → ℕ → ℕ → ℕ → Terms → Grant
+  issued w caller h grantee terms =
+      record { number = w.last + 1; hook = h; grantor = caller; grantee = grantee; execute = terms.execute; onward = terms.onward; mode = terms.mode; state = put w.kept (state_of caller (Some grantee) terms.report) }
 
-  abbrev pub amended : World → ℕ → ℕ → ℕ → ℕ → Mode → Report → Grant
-  amended w caller n x y mode told = issued w caller (grant_at w.grants n).hook (grant_at w.grants n).grantee x y mode told
+  abbrev pub amended : World → ℕ → ℕ → Terms → Grant
+  amended w caller n terms = issued w caller (grant_at w.grants n).hook (grant_at w.grants n).grantee terms
 
   -- the chain that a draw names
   abbrev pub drawn : World → ℕ → ℕ → Report → Option (List Grant)
@@ -244,10 +245,10 @@ module _ (size : ℕ) (means : ℕ → State → Truth) (put see : ℕ → State
   -- the checks of each call; the six reported values are checked, since caller and receiver are judged as persons
   abbrev pub checks : World → Call → List (Option Fault)
   checks w (Fit owners kept) = fit_checks w.fitted owners kept
-  checks w (Issue caller h grantee x y mode told) =
-      issue_checks size caller h (owner w h) grantee x y (state_of caller None told) w.last (length w.grants) (stands_on w w.grants (issued w caller h grantee x y mode told))
-  checks w (Amend caller n x y mode told) =
-      amend_checks size caller n x y (state_of caller None told) w.last (is_some (lookup w.grants n)) (grant_at w.grants n).grantor (stands_on w w.grants (amended w caller n x y mode told))
+  checks w (Issue caller h grantee terms) =
+      issue_checks size caller h (owner w h) grantee terms.execute terms.onward (state_of caller None terms.report) w.last (length w.grants) (stands_on w w.grants (issued w caller h grantee terms))
+  checks w (Amend caller n terms) =
+      amend_checks size caller n terms.execute terms.onward (state_of caller None terms.report) w.last (is_some (lookup w.grants n)) (grant_at w.grants n).grantor (stands_on w w.grants (amended w caller n terms))
   checks w (Withdraw caller n) = withdraw_checks caller n (is_some (lookup w.grants n)) (grant_at w.grants n).grantor
   checks w (Draw caller h told) = draw_checks caller h (owner w h) (state_of caller None told) (is_some (drawn w caller h told)) (hook_at w h)
   checks w (Take h p) = found (judged h (hook_at w h) (event.Take p)) ∷ []
@@ -257,10 +258,10 @@ module _ (size : ℕ) (means : ℕ → State → Truth) (put see : ℕ → State
   -- what each call does and answers, once it has passed its checks
   abbrev pub done : World → Call → World × Answer
   done w (Fit owners kept) = (record { fitted = true; owners = owners; kept = kept; last = w.last; grants = w.grants; hooks = w.hooks }, Done)
-  done w (Issue caller h grantee x y mode told) =
-      (with_grants w (w.last + 1) (w.grants ++ (issued w caller h grantee x y mode told ∷ [])), Number (w.last + 1))
-  done w (Amend caller n x y mode told) =
-      (with_grants w (w.last + 1) (swept w (without number_of n w.grants ++ (amended w caller n x y mode told ∷ []))), Number (w.last + 1))
+  done w (Issue caller h grantee terms) =
+      (with_grants w (w.last + 1) (w.grants ++ (issued w caller h grantee terms ∷ [])), Number (w.last + 1))
+  done w (Amend caller n terms) =
+      (with_grants w (w.last + 1) (swept w (without number_of n w.grants ++ (amended w caller n terms ∷ []))), Number (w.last + 1))
   done w (Withdraw caller n) =
       (with_grants w w.last (left w n), Orphaned (count (λ g. stands_on w w.grants g && not (stands_on w (left w n) g)) (without number_of n w.grants)))
   done w (Draw caller h told) = (with_hook w h (key.Promised caller), Slip h caller (reverse (map number_of (unwrap_or (drawn w caller h told) []))))

@@ -22,7 +22,7 @@ returns g c =
     let t = a.terms.now in
     let made = amended_is l a.caller a.number t c.get-old.result c.unwrap_or-known.result c.blank.result c.grant_by-grant.result c.get-old.ensures c.blank.ensures c.unwrap_or-known.ensures c.grant_by-grant.ensures in
     let ok = c.in_ok-check_amend.ensures ∙ (λ i. passed (amend_on size says l (c.get-old.ensures i) a.number (made i) t.report)) in
-    let did = λ (hs : List HookState). performs size says (world_with l hs) (Amend a.caller a.number t.execute t.onward t.mode t.report) _ ok in
+    let did = λ (hs : List HookState). performs size says (world_with l hs) (Amend a.caller a.number t) _ ok in
     let put = λ (hs : List HookState).
     c.settle.ensures hs
     ∙ ap (settled size says) (c.add.ensures hs ∙ (λ i. let w = c.take_out.ensures hs i in with_grants w (w.last + 1) (w.grants ++ (made i ∷ [])))) in
@@ -41,7 +41,7 @@ returns-in_err-check_amend g c =
     let made = amended_is l a.caller a.number t c.get-old.result c.unwrap_or-known.result c.blank.result c.grant_by-grant.result c.get-old.ensures c.blank.ensures c.unwrap_or-known.ensures c.grant_by-grant.ensures in
     let no_way = c.in_err-check_amend.ensures ∙ (λ i. passed (amend_on size says l (c.get-old.ensures i) a.number (made i) t.report)) in
     let so = λ (hs : List HookState).
-    refuses size says (world_with l hs) (Amend a.caller a.number t.execute t.onward t.mode t.report) told (λ e. refl) c.from_residual.result _ c.from_residual.ensures.1 no_way in
+    refuses size says (world_with l hs) (Amend a.caller a.number t) told (λ e. refl) c.from_residual.result _ c.from_residual.ensures.1 no_way in
     record { is = λ hs. (so hs).0; after = λ hs. (so hs).1 }
 
 pub add-requires : goal.add-requires

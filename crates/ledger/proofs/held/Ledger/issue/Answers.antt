@@ -16,7 +16,7 @@ returns g c =
     let a = c.args in
     let t = a.terms.now in
     let made = c.grant_by-grant.ensures in
-    let call = Issue a.caller a.hook a.grantee t.execute t.onward t.mode t.report in
+    let call = Issue a.caller a.hook a.grantee t in
     let ok = c.in_ok-check_issue.ensures ∙ ap (λ (k : Grant). passed (issue_on size says l k t.report)) made in
     record {
       is = λ hs. ap (λ (w : World). Ok w.last) (c.add.ensures hs) ∙ sym (ap (λ (x : World × Answer). told x.1) (performs size says (world_with l hs) call _ ok));
@@ -33,7 +33,7 @@ returns-in_err-check_issue g c =
     let l = c.args.self.now in
     let a = c.args in
     let t = a.terms.now in
-    let call = Issue a.caller a.hook a.grantee t.execute t.onward t.mode t.report in
+    let call = Issue a.caller a.hook a.grantee t in
     let no_way = c.in_err-check_issue.ensures ∙ ap (λ (k : Grant). passed (issue_on size says l k t.report)) c.grant_by-grant.ensures in
     let so = λ (hs : List HookState). refuses size says (world_with l hs) call told (λ e. refl) c.from_residual.result _ c.from_residual.ensures.1 no_way in
     record { is = λ hs. (so hs).0; after = λ hs. (so hs).1 }
