@@ -30,6 +30,7 @@ pub(crate) struct Draft {
 impl Draft {
     /// The draft before the first field: condition 0 for drawing, condition 1 for granting on, and
     /// a grant that expires.
+    // stays: no derived default, since what an absent field means is this format's own.
     pub(crate) fn blank() -> Draft
         ensures { result ≡ blank }
     {

@@ -4,7 +4,7 @@ ghost use Rattle.std.specs.Option.{option_map};
 ghost use Rattle.commands.specs.Steps.{sense, worth, tag_of};
 
 use crate::fields::Field;
-use crate::values::{four, is_state, one, two};
+use crate::values::is_state;
 use command_words::letter::Letter;
 use command_words::{Outcome, Verb};
 use grants::Mode;
@@ -28,18 +28,17 @@ pub(crate) enum Token<'a> {
 pub(crate) fn token_of<'a>(field: Field<'a>) -> Option<Token<'a>>
     ensures { option_map sense result ≡ worth field.entry.tag field.entry.value.now }
 {
-    let value = field.value;
-    match field.tag {
-        1 => Some(Token::Verb(Verb::of_letter(one(value)?)?)),
-        2 => Some(Token::Caller(one(value)?)),
-        3 => Some(Token::Hook(one(value)?)),
-        4 => Some(Token::Grantee(one(value)?)),
-        5 => Some(Token::Execute(two(value)?)),
-        6 => Some(Token::Onward(two(value)?)),
-        7 => Some(Token::Mode(Mode::of_letter(one(value)?)?)),
-        8 if is_state(value) => Some(Token::State(value)),
-        9 => Some(Token::Outcome(Outcome::of_letter(one(value)?)?)),
-        10 => Some(Token::Number(four(value)?)),
+    match (field.tag, field.value) {
+        (1, [letter]) => Some(Token::Verb(Verb::of_letter(*letter)?)),
+        (2, [n]) => Some(Token::Caller(*n)),
+        (3, [n]) => Some(Token::Hook(*n)),
+        (4, [n]) => Some(Token::Grantee(*n)),
+        (5, [hi, lo]) => Some(Token::Execute(u16::from_be_bytes([*hi, *lo]))),
+        (6, [hi, lo]) => Some(Token::Onward(u16::from_be_bytes([*hi, *lo]))),
+        (7, [letter]) => Some(Token::Mode(Mode::of_letter(*letter)?)),
+        (8, state) if is_state(state) => Some(Token::State(state)),
+        (9, [letter]) => Some(Token::Outcome(Outcome::of_letter(*letter)?)),
+        (10, [a, b, c, d]) => Some(Token::Number(u32::from_be_bytes([*a, *b, *c, *d]))),
         _ => None,
     }
 }

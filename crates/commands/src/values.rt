@@ -1,36 +1,9 @@
-//! The values of fields: numbers of one, two and four bytes, and states.
+//! The value of a state: what a caller tells, entry by entry.
 ghost use Rattle.std.specs.Prelude.{◌≡◌};
-ghost use Rattle.commands.specs.Steps.{alone, pair, quad, rising, noted, reported, unknown};
+ghost use Rattle.commands.specs.Steps.{rising, noted, reported, unknown};
 
 use states::report::Report;
 use states::state::{DAY, GROUPS, LEVEL, PATH, STATUS, TIME};
-
-pub(crate) fn one(value: &[u8]) -> Option<u8>
-    ensures { result ≡ alone value.now }
-{
-    match value {
-        [x] => Some(*x),
-        _ => None,
-    }
-}
-
-pub(crate) fn two(value: &[u8]) -> Option<u16>
-    ensures { result ≡ pair value.now }
-{
-    match value {
-        [hi, lo] => Some(u16::from_be_bytes([*hi, *lo])),
-        _ => None,
-    }
-}
-
-pub(crate) fn four(value: &[u8]) -> Option<u32>
-    ensures { result ≡ quad value.now }
-{
-    match value {
-        [a, b, c, d] => Some(u32::from_be_bytes([*a, *b, *c, *d])),
-        _ => None,
-    }
-}
 
 /// Whether the value is a state: a variable and two bytes each, rising, from 2 to 7.
 pub(crate) fn is_state(value: &[u8]) -> bool
