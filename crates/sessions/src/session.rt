@@ -40,6 +40,8 @@ pub(crate) fn answer_all<L: Language>(
     let mut text = String::new(heap);
     let mut rest = commands;
     let mut count = 1;
+    // stays: a line needs its count, and a refusal what is left of the file; an iterator would carry
+    // both along, and where it fails the loop ends all the same.
     while !rest.is_empty() {
         let Some(record) = next_command(rest) else {
             let fault = Refusal::CommandIllFormed.at(end - rest.len());
