@@ -4,6 +4,7 @@ use Rattle.std.specs.Prelude.{ℕ, ◌/◌, ◌%◌, cond, List, [], ◌∷◌, 
 use Rattle.states.specs.declared.report.Report.{Report}
 use Rattle.grants.specs.declared.Mode.{Mode}
 use Rattle.grants.specs.declared.Mode.TheVariants.{Expiring, Resting}
+use Rattle.grants.specs.declared.terms.Terms.{Terms}
 use Rattle.command_words.specs.declared.Verb.{Verb}
 use Rattle.command_words.specs.declared.Verb.TheVariants as verbs
 use Rattle.command_words.specs.declared.Outcome.{Outcome}
@@ -28,12 +29,29 @@ abbrev pub outcome_letter : Outcome → ℕ
 outcome_letter Taken = 84
 outcome_letter Left = 76
 
+-- all the words of each kind
+abbrev pub verbs_all : List Verb
+verbs_all = verbs.Issue ∷ verbs.Amend ∷ verbs.Withdraw ∷ verbs.Draw ∷ verbs.Return ∷ []
+
+abbrev pub modes_all : List Mode
+modes_all = Expiring ∷ Resting ∷ []
+
+abbrev pub outcomes_all : List Outcome
+outcomes_all = Taken ∷ Left ∷ []
+
 abbrev pub verb_of : Command → Verb
-verb_of (commands.Issue caller hook grantee execute onward mode report) = verbs.Issue
-verb_of (commands.Amend caller execute onward mode report number) = verbs.Amend
+verb_of (commands.Issue caller hook grantee terms) = verbs.Issue
+verb_of (commands.Amend caller number terms) = verbs.Amend
 verb_of (commands.Withdraw caller number) = verbs.Withdraw
 verb_of (commands.Draw caller hook report outcome) = verbs.Draw
 verb_of (commands.Return caller hook) = verbs.Return
+
+abbrev pub caller_of : Command → ℕ
+caller_of (commands.Issue caller hook grantee terms) = caller
+caller_of (commands.Amend caller number terms) = caller
+caller_of (commands.Withdraw caller number) = caller
+caller_of (commands.Draw caller hook report outcome) = caller
+caller_of (commands.Return caller hook) = caller
 
 -- the tags of the fields that each verb has: 1 verb, 2 caller, 3 hook, 4 grantee, 5 condition for drawing,
 -- 6 condition for granting on, 7 mode, 8 state, 9 outcome, 10 number of a grant
@@ -87,14 +105,17 @@ entry_of v (Some n) = v ∷ pair_of n
 abbrev pub entries : Report → List ℕ
 entries r = entry_of 2 r.time ++ (entry_of 3 r.day ++ (entry_of 4 r.groups ++ (entry_of 5 r.path ++ (entry_of 6 r.level ++ entry_of 7 r.status))))
 
+-- the fields that say the terms of a grant, the last one first, behind those `before`
+abbrev pub fields_of_terms : Terms → List Field → List Field
+fields_of_terms terms before =
+    (8, entries terms.report) ∷ (7, mode_letter terms.mode ∷ []) ∷ (6, pair_of terms.onward) ∷ (5, pair_of terms.execute) ∷ before
+
 -- all the fields of a command, the last one first
 abbrev pub fields_of : Command → List Field
-fields_of (commands.Issue caller hook grantee execute onward mode report) =
-    (8, entries report) ∷ (7, mode_letter mode ∷ []) ∷ (6, pair_of onward) ∷ (5, pair_of execute)
-    ∷ (4, grantee ∷ []) ∷ (3, hook ∷ []) ∷ (2, caller ∷ []) ∷ (1, verb_letter verbs.Issue ∷ []) ∷ []
-fields_of (commands.Amend caller execute onward mode report number) =
-    (10, quad_of number) ∷ (8, entries report) ∷ (7, mode_letter mode ∷ []) ∷ (6, pair_of onward) ∷ (5, pair_of execute)
-    ∷ (2, caller ∷ []) ∷ (1, verb_letter verbs.Amend ∷ []) ∷ []
+fields_of (commands.Issue caller hook grantee terms) =
+    fields_of_terms terms ((4, grantee ∷ []) ∷ (3, hook ∷ []) ∷ (2, caller ∷ []) ∷ (1, verb_letter verbs.Issue ∷ []) ∷ [])
+fields_of (commands.Amend caller number terms) =
+    (10, quad_of number) ∷ fields_of_terms terms ((2, caller ∷ []) ∷ (1, verb_letter verbs.Amend ∷ []) ∷ [])
 fields_of (commands.Withdraw caller number) = (10, quad_of number) ∷ (2, caller ∷ []) ∷ (1, verb_letter verbs.Withdraw ∷ []) ∷ []
 fields_of (commands.Draw caller hook report outcome) =
     (9, outcome_letter outcome ∷ []) ∷ (8, entries report) ∷ (3, hook ∷ []) ∷ (2, caller ∷ []) ∷ (1, verb_letter verbs.Draw ∷ []) ∷ []

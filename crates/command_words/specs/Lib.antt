@@ -1,2 +1,4 @@
 pub mod Fields
 pub mod Format
+pub mod Letters
+pub mod LetterLaws

@@ -1,8 +1,13 @@
 //! What a command says; specs/ has the format in which it is spelled.
 #![tactic(auto)]
 
-use grants::Mode;
+ghost use Rattle.std.specs.Prelude.{◌≡◌};
+ghost use Rattle.command_words.specs.Format.{verb_of, caller_of};
+
+use grants::terms::Terms;
 use states::report::Report;
+
+pub mod letter;
 
 /// What a command asks for; letters I, A, W, D and R.
 #[derive(Clone, Copy, Debug, PartialEq, Eq)]
@@ -23,27 +28,20 @@ pub enum Outcome {
     Left,
 }
 
-/// A command. `execute` is the condition for drawing the key, `onward` the condition for granting
-/// it on, both by number; `report` is the state that the caller tells; `number` is a grant's.
-/// Whether such a person, hook, condition or grant exists is not asked here.
+/// A command. `terms` is what the caller lays down for a grant, `report` the state that he tells,
+/// `number` a grant's. Whether such a person, hook, condition or grant exists is not asked here.
 #[derive(Clone, Copy, Debug, PartialEq, Eq)]
 pub enum Command {
     Issue {
         caller: u8,
         hook: u8,
         grantee: u8,
-        execute: u16,
-        onward: u16,
-        mode: Mode,
-        report: Report,
+        terms: Terms,
     },
     Amend {
         caller: u8,
-        execute: u16,
-        onward: u16,
-        mode: Mode,
-        report: Report,
         number: u32,
+        terms: Terms,
     },
     Withdraw {
         caller: u8,
@@ -59,4 +57,32 @@ pub enum Command {
         caller: u8,
         hook: u8,
     },
+}
+
+impl Command {
+    /// What the command asks for.
+    pub fn verb(self) -> Verb
+        ensures { result ≡ verb_of self }
+    {
+        match self {
+            Command::Issue { .. } => Verb::Issue,
+            Command::Amend { .. } => Verb::Amend,
+            Command::Withdraw { .. } => Verb::Withdraw,
+            Command::Draw { .. } => Verb::Draw,
+            Command::Return { .. } => Verb::Return,
+        }
+    }
+
+    /// Who gives the command.
+    pub fn caller(self) -> u8
+        ensures { result ≡ caller_of self }
+    {
+        match self {
+            Command::Issue { caller, .. }
+            | Command::Amend { caller, .. }
+            | Command::Withdraw { caller, .. }
+            | Command::Draw { caller, .. }
+            | Command::Return { caller, .. } => caller,
+        }
+    }
 }

@@ -1,122 +1,78 @@
 //! Writes a command as a record of 64 bytes.
-ghost use Rattle.std.specs.Prelude.{◌≡◌, ◌≤◌, length, take, Ok};
-ghost use Rattle.command_words.specs.Format.{verb_of, verb_letter, mode_letter, outcome_letter, fields_of, wire};
-ghost use Rattle.command_writer.specs.Pens.{caller_of, clean, penned, start, terms, filled};
+ghost use Rattle.std.specs.Prelude.{◌≡◌, ◌≤◌, [], length, take, Ok};
+ghost use Rattle.command_words.specs.Format.{fields_of_terms, fields_of, wire};
+ghost use Rattle.command_writer.specs.Pens.{penned, start, filled};
 
-use crate::pens::{Pen, new_pen};
-use command_words::{Command, Outcome};
+use crate::pens::Pen;
+use command_words::Command;
+use command_words::letter::Letter;
 use commands::reader::read;
 use faults::Fault;
-use grants::Mode;
-use states::report::Report;
-
-fn mode_letter(mode: Mode) -> u8
-    ensures { result ≡ mode_letter mode }
-{
-    match mode {
-        Mode::Expiring => b'E',
-        Mode::Resting => b'R',
-    }
-}
-
-fn outcome_letter(outcome: Outcome) -> u8
-    ensures { result ≡ outcome_letter outcome }
-{
-    match outcome {
-        Outcome::Taken => b'T',
-        Outcome::Left => b'L',
-    }
-}
-
-/// The letter of a command's verb.
-fn verb_letter(command: Command) -> u8
-    ensures { result ≡ verb_letter (verb_of command) }
-{
-    match command {
-        Command::Issue { .. } => b'I',
-        Command::Amend { .. } => b'A',
-        Command::Withdraw { .. } => b'W',
-        Command::Draw { .. } => b'D',
-        Command::Return { .. } => b'R',
-    }
-}
-
-fn caller_of(command: Command) -> u8
-    ensures { result ≡ caller_of command }
-{
-    match command {
-        Command::Issue { caller, .. } => caller,
-        Command::Amend { caller, .. } => caller,
-        Command::Withdraw { caller, .. } => caller,
-        Command::Draw { caller, .. } => caller,
-        Command::Return { caller, .. } => caller,
-    }
-}
+use grants::terms::Terms;
 
 /// A pen that has written the verb and the caller.
 fn begin(command: Command) -> Pen
-    ensures { result ≡ penned clean (start command) }
+    ensures { result.bytes.items ≡ penned [] (start command) }
 {
-    let mut pen = new_pen();
-    pen.byte(1, verb_letter(command));
-    pen.byte(2, caller_of(command));
+    let mut pen = Pen::new();
+    pen.field(1, &[command.verb().letter()]);
+    pen.field(2, &[command.caller()]);
     pen
 }
 
-/// The fields that a new grant and an amended one share: its conditions, mode and state.
-fn put_terms(pen: &mut Pen, execute: u16, onward: u16, mode: Mode, report: Report)
-    ensures { pen.new ≡ penned pen.old (terms execute onward mode report) }
+/// The fields that a new grant and an amended one share.
+fn put_terms(pen: &mut Pen, terms: Terms)
+    ensures { pen.new.bytes.items ≡ penned pen.old.bytes.items (fields_of_terms terms []) }
 {
-    pen.pair(5, execute);
-    pen.pair(6, onward);
-    pen.byte(7, mode_letter(mode));
-    pen.state(report);
+    pen.field(5, &terms.execute.to_be_bytes());
+    pen.field(6, &terms.onward.to_be_bytes());
+    pen.field(7, &[terms.mode.letter()]);
+    pen.state(terms.report);
 }
 
 /// Every field of the command.
 fn pen_down(command: Command) -> Pen
-    ensures { result ≡ penned clean (fields_of command) }
+    ensures { result.bytes.items ≡ penned [] (fields_of command) }
 {
     let mut pen = begin(command);
     match command {
         Command::Issue {
             hook,
             grantee,
-            execute,
-            onward,
-            mode,
-            report,
+            terms,
             ..
         } => {
-            pen.byte(3, hook);
-            pen.byte(4, grantee);
-            put_terms(&mut pen, execute, onward, mode, report);
+            pen.field(3, &[hook]);
+            pen.field(4, &[grantee]);
+            put_terms(&mut pen, terms);
         }
-        Command::Amend {
-            execute,
-            onward,
-            mode,
-            report,
-            number,
-            ..
-        } => {
-            put_terms(&mut pen, execute, onward, mode, report);
-            pen.quad(10, number);
+        Command::Amend { number, terms, .. } => {
+            put_terms(&mut pen, terms);
+            pen.field(10, &number.to_be_bytes());
         }
-        Command::Withdraw { number, .. } => pen.quad(10, number),
+        Command::Withdraw { number, .. } => pen.field(10, &number.to_be_bytes()),
         Command::Draw {
             hook,
             report,
             outcome,
             ..
         } => {
-            pen.byte(3, hook);
+            pen.field(3, &[hook]);
             pen.state(report);
-            pen.byte(9, outcome_letter(outcome));
+            pen.field(9, &[outcome.letter()]);
         }
-        Command::Return { hook, .. } => pen.byte(3, hook),
+        Command::Return { hook, .. } => pen.field(3, &[hook]),
     }
     pen
+}
+
+/// Fills the 64 bytes with these, then zeros.
+fn fill(out: &mut [u8; 64], bytes: &[u8])
+    requires { length bytes.now ≤ 64 }
+    ensures { out.new ≡ filled bytes.now }
+{
+    *out = [0; 64];
+    out[..bytes.len()].copy_from_slice(bytes);
 }
 
 /// Fills the 64 bytes with every field of the command, then zeros, and answers the length of the
@@ -129,9 +85,9 @@ pub fn write(command: Command, out: &mut [u8; 64]) -> usize
     ensures size { length out.new ≡ 64 }
 {
     let pen = pen_down(command);
-    let bytes = pen.bytes;
-    *out = bytes;
-    pen.at
+    let written = pen.written();
+    fill(out, written);
+    written.len()
 }
 
 /// The first bytes of a record.

@@ -7,13 +7,14 @@ use Rattle.grants.specs.declared.Mode.{Mode}
 use Rattle.command_words.specs.declared.Outcome.{Outcome}
 use Rattle.command_words.specs.declared.Command.{Command}
 use Rattle.command_words.specs.declared.Command.TheVariants.{Issue, Amend, Withdraw, Draw, Return}
+use Rattle.command_words.specs.LetterLaws.{mode_lettered, outcome_lettered}
 use Rattle.command_words.specs.Format.{mode_letter, outcome_letter, entry_of, entries, fields_of, wire}
 use Rattle.commands.specs.Steps.{rising, worth}
 use Rattle.commands.specs.Reading.{reading}
 use Rattle.commands.specs.Law.{Makes, ill}
 use Rattle.commands.proofs.Walks.{walk_end}
 use Rattle.commands.proofs.Sound.{Kept}
-use Rattle.commands.proofs.Making.{mode_again, outcome_again, closed_since}
+use Rattle.commands.proofs.Making.{closed_since}
 use Rattle.commands.proofs.Laws.{walk_over}
 
 -- the variables of a report rise
@@ -33,22 +34,22 @@ state_kept : (r : Report) → is_some (worth 8 (entries r)) ≡ true
 state_kept r = rw (rising_again r)
 
 mode_kept : (m : Mode) → is_some (worth 7 (mode_letter m ∷ [])) ≡ true
-mode_kept m = rw (mode_again m)
+mode_kept m = rw (mode_lettered m)
 
 outcome_kept : (o : Outcome) → is_some (worth 9 (outcome_letter o ∷ [])) ≡ true
-outcome_kept o = rw (outcome_again o)
+outcome_kept o = rw (outcome_lettered o)
 
 -- the fields of a command keep the rules
 kept_of_lem : (c : Command) → Kept (fields_of c)
-kept_of_lem (Issue c h g x y m r) = ((((((((tt, refl), refl), refl), refl), refl), refl), mode_kept m), state_kept r)
-kept_of_lem (Amend c x y m r n) = (((((((tt, refl), refl), refl), refl), mode_kept m), state_kept r), refl)
+kept_of_lem (Issue c h g t) = ((((((((tt, refl), refl), refl), refl), refl), refl), mode_kept t.mode), state_kept t.report)
+kept_of_lem (Amend c n t) = (((((((tt, refl), refl), refl), refl), mode_kept t.mode), state_kept t.report), refl)
 kept_of_lem (Withdraw c n) = (((tt, refl), refl), refl)
 kept_of_lem (Draw c h r o) = (((((tt, refl), refl), refl), state_kept r), outcome_kept o)
 kept_of_lem (Return c h) = (((tt, refl), refl), refl)
 
 makes_of : (c : Command) → Makes (fields_of c) c
-makes_of (Issue c h g x y m r) = (refl, (refl, (refl, (refl, (refl, (refl, (refl, (refl, tt))))))))
-makes_of (Amend c x y m r n) = (refl, (refl, (refl, (refl, (refl, (refl, (refl, tt)))))))
+makes_of (Issue c h g t) = (refl, (refl, (refl, (refl, (refl, (refl, (refl, (refl, tt))))))))
+makes_of (Amend c n t) = (refl, (refl, (refl, (refl, (refl, (refl, (refl, tt)))))))
 makes_of (Withdraw c n) = (refl, (refl, (refl, tt)))
 makes_of (Draw c h r o) = (refl, (refl, (refl, (refl, (refl, tt)))))
 makes_of (Return c h) = (refl, (refl, (refl, tt)))

@@ -1,14 +1,15 @@
 -- The draft that the reader holds is the draft of the fields read so far.
 use Rattle.std.proofs.Common.{◌≡◌, ℕ, Bool, true, false, cond, ◌&&◌, List, ◌∷◌, is_some, Some, None, Option, sym, refl, ap, ◌∙◌}
-use Rattle.std.specs.Option.{option_map}
+use Rattle.std.proofs.lemmas.Option.{none-some, cond_some}
+use Rattle.std.specs.Option.{option_map, option_and_then as then}
 use Rattle.std.proofs.lemmas.Bool.{cond-true, cond-false, and_right}
 use Rattle.commands.specs.declared.drafts.Draft.{Draft}
 use Rattle.command_words.specs.Fields.{Field}
-use Rattle.commands.specs.Steps.{then, cut, alone, pair, quad, verb_named, mode_named, outcome_named, rising, Said, tag_of, worth}
+use Rattle.commands.specs.Steps.{cut, alone, pair, quad, verb_named, mode_named, outcome_named, rising, Said, tag_of, worth}
 use Rattle.commands.specs.Steps.Said.{verb, caller, hook, grantee, execute, onward, mode, state, outcome, number}
 use Rattle.commands.specs.Drafts.{noting, may_come, admitted, with_rest, taken_by, taken, draft_of}
 use Rattle.commands.specs.Reading.{keeps, kept_by, next}
-use Rattle.commands.proofs.Tags.{by_tags, tags, ten, worth_none, none_some, mapped_some, cond_some}
+use Rattle.commands.proofs.Tags.{by_tags, tags, ten, worth_none, mapped_some}
 
 mapped_cond : (b : Bool) (before : List Field) (f : Field) (rest : List ℕ)
     → option_map (with_rest rest) (cond b (Some (draft_of (f ∷ before))) None) ≡ cond (b && true) (Some (draft_of (f ∷ before), rest)) None
@@ -16,7 +17,7 @@ mapped_cond true before f rest = refl
 mapped_cond false before f rest = refl
 
 cond_none : {X Y : Type 0} (b : Bool) (x : X) (y : Y) → cond b (Some x) None ≡ None → cond b (Some y) None ≡ None
-cond_none true x y e = absurd (none_some (sym e))
+cond_none true x y e = absurd (none-some _ (sym e))
 cond_none false x y e = refl
 
 -- what a field says goes where its tag points
@@ -34,7 +35,7 @@ module _ (before : List Field) (v : List ℕ) where
   state_said : Noted before v 8
   state_said s e =
       let p = cond_some (rising 1 v) (state v) s e in
-      (ap tag_of p.1, ap (noting (draft_of before)) p.1)
+      (ap tag_of (sym p.1), ap (noting (draft_of before)) (sym p.1))
 
   pub noted_at : (t : ℕ) → Noted before v t
   noted_at t =
@@ -50,7 +51,7 @@ module _ (before : List Field) (v : List ℕ) where
       state_said
       (by_said outcome (then outcome_named (alone v)) 9 (λ x. refl) (λ x e. rw e))
       (by_said number (quad v) 10 (λ x. refl) (λ x e. rw e)))
-      (λ o s e. absurd (none_some (sym (worth_none t o v) ∙ e)))
+      (λ o s e. absurd (none-some _ (sym (worth_none t o v) ∙ e)))
 
 -- a field that is understood is admitted if its tag may come
 admitted_by : (before : List Field) (t : ℕ) (v : List ℕ) (s : Said) → worth t v ≡ Some s
@@ -76,14 +77,14 @@ pub record Took (before : List Field) (xs : List ℕ) (p : Draft × List ℕ) : 
 took_at : (before : List Field) (xs : List ℕ) (c : Option (Field × List ℕ)) → cut xs ≡ c → (p : Draft × List ℕ)
     → then (taken_by (draft_of before)) c ≡ Some p
     → Took before xs p
-took_at before xs None e p q = absurd (none_some q)
+took_at before xs None e p q = absurd (none-some _ q)
 took_at before xs (Some g) e p q =
     let w = cond_some (keeps before g.0) (draft_of (g.0 ∷ before), g.1) p (sym (stepped before g.0 g.1 (worth g.0.0 g.0.1) refl) ∙ q) in
     record {
       field = g.0;
-      cut_off_bytes = e ∙ ap (λ (r : List ℕ). Some (g.0, r)) (sym (ap (λ (x : Draft × List ℕ). x.1) w.1));
+      cut_off_bytes = e ∙ ap (λ (r : List ℕ). Some (g.0, r)) (ap (λ (x : Draft × List ℕ). x.1) w.1);
       kept = w.0;
-      draft = ap (λ (x : Draft × List ℕ). x.0) w.1;
+      draft = sym (ap (λ (x : Draft × List ℕ). x.0) w.1);
     }
 
 pub took : (before : List Field) (xs : List ℕ) (p : Draft × List ℕ) → taken (draft_of before) xs ≡ Some p → Took before xs p

@@ -1,15 +1,16 @@
 -- A value says something exactly if it is of the kind of its tag.
 use Rattle.std.proofs.Common.{◌≡◌, ℕ, ◌<◌, Bool, true, false, cond, eqb, ltb, List, [], ◌∷◌, length, is_some, Some, None, Option, sym, refl, ap, ◌∙◌, subst, arith}
-use Rattle.std.specs.Option.{option_map}
+use Rattle.std.specs.Option.{option_map, option_and_then as then}
 use Rattle.std.specs.List.{ContainsAt as Has, AllByRecursion}
 use Rattle.std.proofs.ByRecursion.{all-has, all_has_itself, All-weaker}
 use Rattle.std.proofs.lemmas.Bool.{ltb-true, lt-ltb}
-use Rattle.command_words.specs.Format.{Kind, kind_of}
+use Rattle.command_words.specs.Format.{verb_letter, verbs_all, mode_letter, modes_all, outcome_letter, outcomes_all, Kind, kind_of}
 use Rattle.command_words.specs.Format.Kind.{letter}
-use Rattle.commands.specs.Steps.{then, alone, pair, quad, verb_named, mode_named, outcome_named, rising, Said, worth}
+use Rattle.commands.specs.Steps.{alone, pair, quad, verb_named, mode_named, outcome_named, rising, Said, worth}
 use Rattle.commands.specs.Steps.Said.{verb, caller, hook, grantee, execute, onward, mode, state, outcome, number}
 use Rattle.commands.specs.Law.{Entries, Fits}
-use Rattle.commands.proofs.Tags.{by_tags, tags, ten, worth_none, kind_unknown, none_some}
+use Rattle.commands.proofs.Letters.{named_none}
+use Rattle.commands.proofs.Tags.{by_tags, tags, ten, worth_none, kind_unknown}
 
 -- a test tells whether a fact holds
 pub record Tells (b : Bool) (P : Type 0) : Type 0 where
@@ -46,32 +47,6 @@ module _ (F : ℕ → Said) where
   four_fits (x ∷ y ∷ z ∷ w ∷ u ∷ r) = fails (λ e. omega arith)
 
 -- letters
-pub verb_only : (l : ℕ) → AllByRecursion (λ k. eqb l k ≡ false) (73 ∷ 65 ∷ 87 ∷ 68 ∷ 82 ∷ []) → verb_named l ≡ None
-verb_only l o = rw (o.0, o.1.0, o.1.1.0, o.1.1.1.0, o.1.1.1.1.0)
-
-pub mode_only : (l : ℕ) → AllByRecursion (λ k. eqb l k ≡ false) (69 ∷ 82 ∷ []) → mode_named l ≡ None
-mode_only l o = rw (o.0, o.1.0)
-
-pub outcome_only : (l : ℕ) → AllByRecursion (λ k. eqb l k ≡ false) (84 ∷ 76 ∷ []) → outcome_named l ≡ None
-outcome_only l o = rw (o.0, o.1.0)
-
--- a letter that names something is its letter
-module _ {X : Type 0} (named : ℕ → Option X) (letterOf : X → ℕ) (again : (x : X) → named (letterOf x) ≡ Some x) where
-  abbrev Lettered : ℕ → Type 0
-  Lettered l = (x : X) → named l ≡ Some x → l ≡ letterOf x
-
-  lettered : (y : X) → Lettered (letterOf y)
-  lettered y x e =
-      let q : Some y ≡ Some x = sym (again y) ∙ e in
-      let r : y ≡ x = cc in
-      ap letterOf r
-
-  pub named_letter : (letters : List ℕ) → AllByRecursion (λ k. (y : X) × (letterOf y ≡ k)) letters → ((l : ℕ) → AllByRecursion (λ k. eqb l k ≡ false) letters → named l ≡ None) → (l : ℕ) → Lettered l
-  named_letter letters each only l =
-      by_tags Lettered l letters
-      (All-weaker (λ k. (y : X) × (letterOf y ≡ k)) Lettered (λ k p. subst Lettered p.1 (lettered p.0)) letters each)
-      (λ o x e. absurd (none_some (sym (only l o) ∙ e)))
-
 is_mapped : {X : Type 0} (F : X → Said) (o : Option X) → is_some (option_map F o) ≡ is_some o
 is_mapped F None = refl
 is_mapped F (Some x) = refl
@@ -121,15 +96,15 @@ pub fits_tells : (v : List ℕ) (t : ℕ) → FitsAt v t
 fits_tells v t =
     by_tags (FitsAt v) t tags
     (ten (FitsAt v)
-    (letter_fits verb verb_named (73 ∷ 65 ∷ 87 ∷ 68 ∷ 82 ∷ []) (refl, (refl, (refl, (refl, (refl, tt))))) verb_only v)
+    (letter_fits verb verb_named (73 ∷ 65 ∷ 87 ∷ 68 ∷ 82 ∷ []) (refl, (refl, (refl, (refl, (refl, tt))))) (named_none verb_letter verbs_all) v)
     (one_fits caller v)
     (one_fits hook v)
     (one_fits grantee v)
     (two_fits execute v)
     (two_fits onward v)
-    (letter_fits mode mode_named (69 ∷ 82 ∷ []) (refl, (refl, tt)) mode_only v)
+    (letter_fits mode mode_named (69 ∷ 82 ∷ []) (refl, (refl, tt)) (named_none mode_letter modes_all) v)
     (subst (λ (b : Bool). Tells b (Entries 1 v)) (sym (some_state (rising 1 v) (state v))) (rising_tells 1 v))
-    (letter_fits outcome outcome_named (84 ∷ 76 ∷ []) (refl, (refl, tt)) outcome_only v)
+    (letter_fits outcome outcome_named (84 ∷ 76 ∷ []) (refl, (refl, tt)) (named_none outcome_letter outcomes_all) v)
     (four_fits number v))
     (λ o. record {
       yes = λ e. absurd (apart (sym e ∙ ap (λ (s : Option Said). is_some s) (worth_none t o v)));

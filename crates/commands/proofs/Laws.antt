@@ -1,16 +1,16 @@
 -- The reading keeps the law, and nothing else does.
 use Rattle.std.proofs.Common.{◌≡◌, ℕ, zero, suc, ◌+◌, ◌*◌, ◌/◌, ◌%◌, ◌<◌, ◌≤◌, Bool, true, false, List, [], ◌∷◌, ◌++◌, length, Some, None, Ok, Err, Option, Result, sym, refl, ap, ◌∙◌, subst, inl, inr, ⊎_elim, append_assoc, div-add-mod', arith, length-append}
-use Rattle.std.specs.Option.{ok_or}
+use Rattle.std.proofs.lemmas.Option.{none-some}
+use Rattle.std.specs.Option.{ok_or, option_and_then as then}
 use Rattle.std.proofs.lemmas.List.{take_at, drop_at}
 use Rattle.std.proofs.lemmas.Bool.{cases_Bool, cond-false, le-leb}
 use Rattle.faults.specs.declared.Fault.{Fault}
 use Rattle.command_words.specs.declared.Command.{Command}
 use Rattle.command_words.specs.Fields.{Field, spell, spells}
-use Rattle.commands.specs.Steps.{then, cut}
+use Rattle.commands.specs.Steps.{cut}
 use Rattle.commands.specs.Drafts.{closed, draft_of}
 use Rattle.commands.specs.Reading.{keeps, kept_by, next, walk, reading}
 use Rattle.commands.specs.Law.{CutShort, Broken, Lacks, ill, Ends, Reads}
-use Rattle.commands.proofs.Tags.{none_some}
 use Rattle.commands.proofs.Walks.{Stands, cut_stands, walk_some, walk_none, walk_end}
 use Rattle.commands.proofs.Bridge.{next_some}
 use Rattle.commands.proofs.Sound.{Kept, keeps_yes, keeps_no, never_both, kept_lawful, lawful_kept}
@@ -33,8 +33,8 @@ spelled xs f rest b s =
     let l : length f.1 % 256 ≡ s.lo = omega (arith, s.long) in
     s.is ∙ (λ i. f.0 ∷ sym h i ∷ sym l i ∷ (f.1 ++ rest))
 
-cut_short : (xs : List ℕ) → cut xs ≡ None → CutShort xs
-cut_short xs e f more s = none_some (sym e ∙ ap cut s ∙ cut_spell f more)
+pub cut_short : (xs : List ℕ) → cut xs ≡ None → CutShort xs
+cut_short xs e f more s = none-some _ (sym e ∙ ap cut s ∙ cut_spell f more)
 
 stands_spell : (f : Field) (rest : List ℕ) → Stands (spell f ++ rest) f rest
 stands_spell f rest = record { hi = length f.1 / 256; lo = length f.1 % 256; is = refl; long = sym (div-add-mod' (length f.1) 256) }

@@ -1,6 +1,6 @@
-pub mod Cuts
 pub mod Entries
 pub mod Tags
+pub mod Letters
 pub mod Walks
 pub mod Bridge
 pub mod Fitting

@@ -1,44 +1,39 @@
 -- The command that fields make, and the field that is missing where they make none.
 use Rattle.std.proofs.Common.{◌≡◌, ℕ, true, false, cond, eqb, ◌⊎◌, List, [], ◌∷◌, ◌++◌, is_some, Some, None, Option, unwrap_or, sym, refl, ap, ◌∙◌, subst, inl, inr, ⊎_elim}
-use Rattle.std.specs.Option.{option_map, option_or}
+use Rattle.std.proofs.lemmas.Option.{none-some, cond_some}
+use Rattle.std.specs.Option.{option_map, option_or, option_and_then as then}
 use Rattle.std.specs.List.{ContainsAt as Has, AllByRecursion}
 use Rattle.std.proofs.ByRecursion.{all-has}
 use Rattle.std.proofs.lemmas.Bool.{cases_Bool, cond-true, cond-false}
 use Rattle.states.specs.declared.report.Report.{Report}
 use Rattle.grants.specs.declared.Mode.{Mode}
-use Rattle.grants.specs.declared.Mode.TheVariants.{Expiring, Resting}
+use Rattle.grants.specs.declared.Mode.TheVariants.{Expiring}
+use Rattle.grants.specs.declared.terms.Terms.{Terms}
 use Rattle.command_words.specs.declared.Outcome.{Outcome}
-use Rattle.command_words.specs.declared.Outcome.TheVariants.{Taken, Left}
 use Rattle.command_words.specs.declared.Verb.{Verb}
 use Rattle.command_words.specs.declared.Verb.TheVariants as verbs
 use Rattle.command_words.specs.declared.Command.{Command}
 use Rattle.command_words.specs.declared.Command.TheVariants as commands
 use Rattle.commands.specs.declared.drafts.Draft.{Draft}
 use Rattle.command_words.specs.Fields.{Field, spell, spells, look}
-use Rattle.command_words.specs.Format.{verb_of, verb_letter, mode_letter, outcome_letter, tags_of, default_of, pair_of, quad_of, entries}
-use Rattle.commands.specs.Steps.{then, alone, pair, quad, verb_named, mode_named, outcome_named, unknown, reported, rising, Said, worth}
+use Rattle.command_words.specs.LetterLaws.{verb_lettered, mode_lettered, outcome_lettered}
+use Rattle.command_words.specs.Format.{verb_of, verb_letter, mode_letter, modes_all, outcome_letter, outcomes_all, tags_of, default_of, pair_of, quad_of, entries}
+use Rattle.commands.specs.Steps.{alone, pair, quad, verb_named, mode_named, outcome_named, unknown, reported, rising, Said, worth}
 use Rattle.commands.specs.Steps.Said.{verb, caller, hook, grantee, execute, onward, mode, state, outcome, number}
-use Rattle.commands.specs.Drafts.{any, closed, closed_by, draft_of}
+use Rattle.commands.specs.Drafts.{any, terms_with, terms_in, closed, closed_by, draft_of}
 use Rattle.commands.specs.Law.{VerbHas, says, Makes, Lacks}
-use Rattle.commands.proofs.Tags.{none_some, then_some, mapped_some, some_since, cond_some}
-use Rattle.commands.proofs.Fitting.{apart, mode_only, outcome_only, named_letter, rising_tells}
-use Rattle.commands.proofs.Sound.{Kept, sound, letter_names, verb_stands, alone_is, any_has, first_tags}
+use Rattle.commands.proofs.Tags.{then_some, mapped_some, some_since}
+use Rattle.commands.proofs.Fitting.{apart, rising_tells}
+use Rattle.commands.proofs.Letters.{named_letter}
+use Rattle.commands.proofs.Sound.{Kept, sound, verb_stands, alone_is, any_has, first_tags}
 use Rattle.commands.proofs.Spelling.{Bytes, pair_again, quad_again, pair_stands, quad_stands, report_stands, reported_again}
 
 -- letters
-pub mode_again : (m : Mode) → mode_named (mode_letter m) ≡ Some m
-mode_again Expiring = refl
-mode_again Resting = refl
-
-pub outcome_again : (o : Outcome) → outcome_named (outcome_letter o) ≡ Some o
-outcome_again Taken = refl
-outcome_again Left = refl
-
 named_mode : (l : ℕ) (m : Mode) → mode_named l ≡ Some m → l ≡ mode_letter m
-named_mode = named_letter mode_named mode_letter mode_again (69 ∷ 82 ∷ []) ((Expiring, refl), ((Resting, refl), tt)) mode_only
+named_mode = named_letter mode_letter modes_all
 
 named_outcome : (l : ℕ) (o : Outcome) → outcome_named l ≡ Some o → l ≡ outcome_letter o
-named_outcome = named_letter outcome_named outcome_letter outcome_again (84 ∷ 76 ∷ []) ((Taken, refl), ((Left, refl), tt)) outcome_only
+named_outcome = named_letter outcome_letter outcomes_all
 
 pub all_parts : (xs ys : List ℕ) → Bytes (xs ++ ys) → Bytes xs × Bytes ys
 all_parts [] ys b = (tt, b)
@@ -50,11 +45,11 @@ then_none (Some x) e = inr (x, refl, e)
 
 mapped_none : {X Y : Type 0} (F : X → Y) (o : Option X) → option_map F o ≡ None → o ≡ None
 mapped_none F None e = refl
-mapped_none F (Some x) e = absurd (none_some (sym e))
+mapped_none F (Some x) e = absurd (none-some _ (sym e))
 
 -- the bytes under a tag are bytes
 look_bytes : (fs : List Field) → Bytes (spells fs) → (t : ℕ) (v : List ℕ) → look t fs ≡ Some v → Bytes v
-look_bytes [] b t v e = absurd (none_some e)
+look_bytes [] b t v e = absurd (none-some _ e)
 look_bytes (f ∷ before) b t v e =
     let p = all_parts (spells before) (spell f) b in
     ⊎_elim
@@ -91,20 +86,23 @@ module _ (fs : List Field) (k : Kept fs) where
 
   report_missing : (o : Option (List ℕ)) → option_map (reported unknown) o ≡ None → o ≡ None
   report_missing None e = refl
-  report_missing (Some v) e = absurd (none_some (sym e))
+  report_missing (Some v) e = absurd (none-some _ (sym e))
+
+  terms_missing : terms_in (draft_of fs) ≡ None → look 8 fs ≡ None
+  terms_missing e = report_missing (look 8 fs) (mapped_none (terms_with (draft_of fs)) (draft_of fs).report e)
 
   -- which field is missing, verb by verb
   lacks_by : (w : Verb) → (draft_of fs).verb ≡ Some w → (c : ℕ) → closed_by (draft_of fs) c w ≡ None → Lacks fs
   lacks_by verbs.Issue e c n =
       ⊎_elim (λ h. lacking verbs.Issue e 3 refl refl (hook_missing h))
       (λ h. ⊎_elim (λ g. lacking verbs.Issue e 4 refl refl (missing 4 (then alone) grantee (λ v. refl) g))
-      (λ g. lacking verbs.Issue e 8 refl refl (report_missing (look 8 fs) (mapped_none (λ r. commands.Issue c h.0 g.0 (draft_of fs).execute (draft_of fs).onward (draft_of fs).mode r) (draft_of fs).report g.2)))
+      (λ g. lacking verbs.Issue e 8 refl refl (terms_missing (mapped_none (λ t. commands.Issue c h.0 g.0 t) (terms_in (draft_of fs)) g.2)))
       (then_none (draft_of fs).grantee h.2))
       (then_none (draft_of fs).hook n)
   lacks_by verbs.Amend e c n =
-      ⊎_elim (λ h. lacking verbs.Amend e 8 refl refl (report_missing (look 8 fs) h))
-      (λ h. lacking verbs.Amend e 10 refl refl (number_missing (mapped_none (λ n. commands.Amend c (draft_of fs).execute (draft_of fs).onward (draft_of fs).mode h.0 n) (draft_of fs).number h.2)))
-      (then_none (draft_of fs).report n)
+      ⊎_elim (λ h. lacking verbs.Amend e 10 refl refl (number_missing h))
+      (λ h. lacking verbs.Amend e 8 refl refl (terms_missing (mapped_none (λ t. commands.Amend c h.0 t) (terms_in (draft_of fs)) h.2)))
+      (then_none (draft_of fs).number n)
   lacks_by verbs.Withdraw e c n = lacking verbs.Withdraw e 10 refl refl (number_missing (mapped_none (λ n. commands.Withdraw c n) (draft_of fs).number n))
   lacks_by verbs.Draw e c n =
       ⊎_elim (λ h. lacking verbs.Draw e 3 refl refl (hook_missing h))
@@ -191,14 +189,16 @@ module _ (fs : List Field) (k : Kept fs) (b : Bytes (spells fs)) where
   makes_by verbs.Issue e c h made m =
       let p = then_some _ (draft_of fs).hook made m in
       let q = then_some _ (draft_of fs).grantee made p.2 in
-      let r = mapped_some (λ s. commands.Issue c p.0 q.0 (draft_of fs).execute (draft_of fs).onward (draft_of fs).mode s) (draft_of fs).report made q.2 in
-      subst (Makes fs) (sym r.2)
-      (report_says r.0 r.1, (mode_says, (onward_says, (execute_says, (byte_says 4 q.0 q.1, (byte_says 3 p.0 p.1, (byte_says 2 c h, (verb_says verbs.Issue e, tt))))))))
+      let r = mapped_some (λ t. commands.Issue c p.0 q.0 t) (terms_in (draft_of fs)) made q.2 in
+      let t = mapped_some (terms_with (draft_of fs)) (draft_of fs).report r.0 r.1 in
+      subst (Makes fs) (sym (r.2 ∙ ap (λ t. commands.Issue c p.0 q.0 t) t.2))
+      (report_says t.0 t.1, (mode_says, (onward_says, (execute_says, (byte_says 4 q.0 q.1, (byte_says 3 p.0 p.1, (byte_says 2 c h, (verb_says verbs.Issue e, tt))))))))
   makes_by verbs.Amend e c h made m =
-      let p = then_some _ (draft_of fs).report made m in
-      let r = mapped_some (λ n. commands.Amend c (draft_of fs).execute (draft_of fs).onward (draft_of fs).mode p.0 n) (draft_of fs).number made p.2 in
-      subst (Makes fs) (sym r.2)
-      (number_says r.0 r.1, (report_says p.0 p.1, (mode_says, (onward_says, (execute_says, (byte_says 2 c h, (verb_says verbs.Amend e, tt)))))))
+      let p = then_some _ (draft_of fs).number made m in
+      let r = mapped_some (λ t. commands.Amend c p.0 t) (terms_in (draft_of fs)) made p.2 in
+      let t = mapped_some (terms_with (draft_of fs)) (draft_of fs).report r.0 r.1 in
+      subst (Makes fs) (sym (r.2 ∙ ap (λ t. commands.Amend c p.0 t) t.2))
+      (number_says p.0 p.1, (report_says t.0 t.1, (mode_says, (onward_says, (execute_says, (byte_says 2 c h, (verb_says verbs.Amend e, tt)))))))
   makes_by verbs.Withdraw e c h made m =
       let r = mapped_some (λ n. commands.Withdraw c n) (draft_of fs).number made m in
       subst (Makes fs) (sym r.2) (number_says r.0 r.1, (byte_says 2 c h, (verb_says verbs.Withdraw e, tt)))
@@ -220,12 +220,12 @@ module _ (fs : List Field) (k : Kept fs) (b : Bytes (spells fs)) where
 
 -- what is said goes into the draft
 pub said_look : (o : Option (List ℕ)) (v : List ℕ) → option_or o None ≡ Some v → o ≡ Some v
-said_look None v e = absurd (none_some e)
+said_look None v e = absurd (none-some _ e)
 said_look (Some u) v e = e
 
 module _ (fs : List Field) where
   verb_told : (w : Verb) → says fs 1 ≡ Some (verb_letter w ∷ []) → (draft_of fs).verb ≡ Some w
-  verb_told w e = ap (λ (o : Option (List ℕ)). then verb_named (then alone o)) (said_look (look 1 fs) _ e) ∙ letter_names w
+  verb_told w e = ap (λ (o : Option (List ℕ)). then verb_named (then alone o)) (said_look (look 1 fs) _ e) ∙ verb_lettered w
 
   caller_told : (x : ℕ) → says fs 2 ≡ Some (x ∷ []) → (draft_of fs).caller ≡ Some x
   caller_told x e = ap (then alone) (said_look (look 2 fs) _ e)
@@ -243,27 +243,28 @@ module _ (fs : List Field) where
 
   mode_told : (o : Option (List ℕ)) (m : Mode) → option_or o (Some (69 ∷ [])) ≡ Some (mode_letter m ∷ []) → unwrap_or (then mode_named (then alone o)) Expiring ≡ m
   mode_told None m e =
-      let q : Some Expiring ≡ Some m = ap (λ (o : Option (List ℕ)). then mode_named (then alone o)) e ∙ mode_again m in cc
-  mode_told (Some v) m e = ap (λ (x : Option Mode). unwrap_or x Expiring) (ap (λ (o : Option (List ℕ)). then mode_named (then alone o)) e ∙ mode_again m)
+      let q : Some Expiring ≡ Some m = ap (λ (o : Option (List ℕ)). then mode_named (then alone o)) e ∙ mode_lettered m in cc
+  mode_told (Some v) m e = ap (λ (x : Option Mode). unwrap_or x Expiring) (ap (λ (o : Option (List ℕ)). then mode_named (then alone o)) e ∙ mode_lettered m)
 
   report_told : (r : Report) → says fs 8 ≡ Some (entries r) → (draft_of fs).report ≡ Some r
   report_told r e = ap (option_map (reported unknown)) (said_look (look 8 fs) _ e) ∙ ap (λ (x : Report). Some x) (reported_again r)
 
   outcome_told : (o : Outcome) → says fs 9 ≡ Some (outcome_letter o ∷ []) → (draft_of fs).outcome ≡ Some o
-  outcome_told o e = ap (λ (x : Option (List ℕ)). then outcome_named (then alone x)) (said_look (look 9 fs) _ e) ∙ outcome_again o
+  outcome_told o e = ap (λ (x : Option (List ℕ)). then outcome_named (then alone x)) (said_look (look 9 fs) _ e) ∙ outcome_lettered o
 
   number_told : (n : ℕ) → says fs 10 ≡ Some (quad_of n) → (draft_of fs).number ≡ Some n
   number_told n e = ap (then quad) (said_look (look 10 fs) _ e) ∙ quad_again n
 
 -- a draft with every field of its verb
 module _ (d : Draft) (c : ℕ) (told : d.caller ≡ Some c) where
-  close_issue : (h g x y : ℕ) (m : Mode) (r : Report) → d.verb ≡ Some verbs.Issue → d.hook ≡ Some h → d.grantee ≡ Some g → d.execute ≡ x → d.onward ≡ y → d.mode ≡ m → d.report ≡ Some r
-      → closed d ≡ Some (commands.Issue c h g x y m r)
-  close_issue h g x y m r v e f p q s t = rw (v, told, e, f, t, p, q, s)
+  terms_told : (terms : Terms) → d.execute ≡ terms.execute → d.onward ≡ terms.onward → d.mode ≡ terms.mode → d.report ≡ Some terms.report → terms_in d ≡ Some terms
+  terms_told terms x y m r = rw (r, x, y, m)
 
-  close_amend : (x y : ℕ) (m : Mode) (r : Report) (n : ℕ) → d.verb ≡ Some verbs.Amend → d.execute ≡ x → d.onward ≡ y → d.mode ≡ m → d.report ≡ Some r → d.number ≡ Some n
-      → closed d ≡ Some (commands.Amend c x y m r n)
-  close_amend x y m r n v p q s t u = rw (v, told, t, u, p, q, s)
+  close_issue : (h g : ℕ) (terms : Terms) → d.verb ≡ Some verbs.Issue → d.hook ≡ Some h → d.grantee ≡ Some g → terms_in d ≡ Some terms → closed d ≡ Some (commands.Issue c h g terms)
+  close_issue h g terms v e f t = rw (v, told, e, f, t)
+
+  close_amend : (n : ℕ) (terms : Terms) → d.verb ≡ Some verbs.Amend → d.number ≡ Some n → terms_in d ≡ Some terms → closed d ≡ Some (commands.Amend c n terms)
+  close_amend n terms v e t = rw (v, told, e, t)
 
   close_withdraw : (n : ℕ) → d.verb ≡ Some verbs.Withdraw → d.number ≡ Some n → closed d ≡ Some (commands.Withdraw c n)
   close_withdraw n v e = rw (v, told, e)
@@ -275,12 +276,12 @@ module _ (d : Draft) (c : ℕ) (told : d.caller ≡ Some c) where
   close_return h v e = rw (v, told, e)
 
 pub closed_since : (fs : List Field) (made : Command) → Makes fs made → closed (draft_of fs) ≡ Some made
-closed_since fs (commands.Issue c h g x y m r) (t8, (t7, (t6, (t5, (t4, (t3, (t2, (t1, done)))))))) =
-    close_issue (draft_of fs) c (caller_told fs c t2) h g x y m r (verb_told fs verbs.Issue t1) (hook_told fs h t3) (grantee_told fs g t4)
-    (pair_told fs (look 5 fs) 0 x t5) (pair_told fs (look 6 fs) 1 y t6) (mode_told fs (look 7 fs) m t7) (report_told fs r t8)
-closed_since fs (commands.Amend c x y m r n) (t10, (t8, (t7, (t6, (t5, (t2, (t1, done))))))) =
-    close_amend (draft_of fs) c (caller_told fs c t2) x y m r n (verb_told fs verbs.Amend t1)
-    (pair_told fs (look 5 fs) 0 x t5) (pair_told fs (look 6 fs) 1 y t6) (mode_told fs (look 7 fs) m t7) (report_told fs r t8) (number_told fs n t10)
+closed_since fs (commands.Issue c h g terms) (t8, (t7, (t6, (t5, (t4, (t3, (t2, (t1, done)))))))) =
+    close_issue (draft_of fs) c (caller_told fs c t2) h g terms (verb_told fs verbs.Issue t1) (hook_told fs h t3) (grantee_told fs g t4)
+    (terms_told (draft_of fs) c (caller_told fs c t2) terms (pair_told fs (look 5 fs) 0 terms.execute t5) (pair_told fs (look 6 fs) 1 terms.onward t6) (mode_told fs (look 7 fs) terms.mode t7) (report_told fs terms.report t8))
+closed_since fs (commands.Amend c n terms) (t10, (t8, (t7, (t6, (t5, (t2, (t1, done))))))) =
+    close_amend (draft_of fs) c (caller_told fs c t2) n terms (verb_told fs verbs.Amend t1) (number_told fs n t10)
+    (terms_told (draft_of fs) c (caller_told fs c t2) terms (pair_told fs (look 5 fs) 0 terms.execute t5) (pair_told fs (look 6 fs) 1 terms.onward t6) (mode_told fs (look 7 fs) terms.mode t7) (report_told fs terms.report t8))
 closed_since fs (commands.Withdraw c n) (t10, (t2, (t1, done))) =
     close_withdraw (draft_of fs) c (caller_told fs c t2) n (verb_told fs verbs.Withdraw t1) (number_told fs n t10)
 closed_since fs (commands.Draw c h r o) (t9, (t8, (t3, (t2, (t1, done))))) =
@@ -293,12 +294,12 @@ abbrev SaidAt : List Field → ℕ → Type 0
 SaidAt fs t = says fs t ≡ None → ⊥
 
 said_at : (fs : List Field) (t : ℕ) (v : List ℕ) → says fs t ≡ Some v → SaidAt fs t
-said_at fs t v e n = none_some (sym n ∙ e)
+said_at fs t v e n = none-some _ (sym n ∙ e)
 
 pub made_tags : (fs : List Field) (made : Command) → Makes fs made → (says fs 1 ≡ Some (verb_letter (verb_of made) ∷ [])) × AllByRecursion (SaidAt fs) (tags_of (verb_of made))
-made_tags fs (commands.Issue c h g x y m r) (t8, (t7, (t6, (t5, (t4, (t3, (t2, (t1, done)))))))) =
+made_tags fs (commands.Issue c h g terms) (t8, (t7, (t6, (t5, (t4, (t3, (t2, (t1, done)))))))) =
     (t1, (said_at fs 1 _ t1, (said_at fs 2 _ t2, (said_at fs 3 _ t3, (said_at fs 4 _ t4, (said_at fs 5 _ t5, (said_at fs 6 _ t6, (said_at fs 7 _ t7, (said_at fs 8 _ t8, tt)))))))))
-made_tags fs (commands.Amend c x y m r n) (t10, (t8, (t7, (t6, (t5, (t2, (t1, done))))))) =
+made_tags fs (commands.Amend c n terms) (t10, (t8, (t7, (t6, (t5, (t2, (t1, done))))))) =
     (t1, (said_at fs 1 _ t1, (said_at fs 2 _ t2, (said_at fs 5 _ t5, (said_at fs 6 _ t6, (said_at fs 7 _ t7, (said_at fs 8 _ t8, (said_at fs 10 _ t10, tt))))))))
 made_tags fs (commands.Withdraw c n) (t10, (t2, (t1, done))) = (t1, (said_at fs 1 _ t1, (said_at fs 2 _ t2, (said_at fs 10 _ t10, tt))))
 made_tags fs (commands.Draw c h r o) (t9, (t8, (t3, (t2, (t1, done))))) =
@@ -307,7 +308,7 @@ made_tags fs (commands.Return c h) (t3, (t2, (t1, done))) = (t1, (said_at fs 1 _
 
 pub same_verb : (v w : Verb) → verb_letter v ∷ [] ≡ verb_letter w ∷ [] → w ≡ v
 same_verb v w e =
-    let q : Some w ≡ Some v = sym (letter_names w) ∙ ap (λ (l : List ℕ). then verb_named (alone l)) (sym e) ∙ letter_names v in cc
+    let q : Some w ≡ Some v = sym (verb_lettered w) ∙ ap (λ (l : List ℕ). then verb_named (alone l)) (sym e) ∙ verb_lettered v in cc
 
 pub lacks_nothing : (fs : List Field) (made : Command) → Makes fs made → Lacks fs → ⊥
 lacks_nothing fs made m (t, h, n) =

@@ -1,21 +1,24 @@
 -- Fields that pass the tests keep the rules, and the other way round.
 use Rattle.std.proofs.Common.{◌≡◌, ℕ, true, false, eqb, ltb, List, [], ◌∷◌, is_some, Some, None, Option, sym, refl, ap, ◌∙◌, subst, ⊎_elim}
-use Rattle.std.specs.Option.{option_map}
+use Rattle.std.proofs.lemmas.Option.{none-some}
+use Rattle.std.specs.Option.{option_map, option_and_then as then}
 use Rattle.std.specs.List.{ContainsAt as Has, AllByRecursion}
 use Rattle.std.proofs.ByRecursion.{all-has, all_has_itself, All-weaker}
 use Rattle.std.proofs.lemmas.Bool.{cases_Bool, ltb-true, lt-ltb, eqb-true, eqb-false, eq-eqb, and_parts, and_cases, cond-true, cond-false}
 use Rattle.command_words.specs.declared.Verb.{Verb}
 use Rattle.command_words.specs.declared.Verb.TheVariants.{Issue, Amend, Withdraw, Draw, Return}
 use Rattle.command_words.specs.Fields.{Field, look, last_tag}
-use Rattle.command_words.specs.Format.{verb_letter, tags_of}
-use Rattle.commands.specs.Steps.{then, alone, verb_named, worth}
+use Rattle.command_words.specs.LetterLaws.{verb_lettered}
+use Rattle.command_words.specs.Format.{verb_letter, verbs_all, tags_of}
+use Rattle.commands.specs.Steps.{alone, verb_named, worth}
 use Rattle.commands.specs.Steps.Said.{verb}
 use Rattle.commands.specs.Drafts.{any, belongs, may_come, draft_of}
 use Rattle.commands.specs.Reading.{keeps}
 use Rattle.commands.specs.Law.{VerbHas, Belongs, Keeps, Breaks, Lawful}
 use Rattle.commands.specs.Law.Breaks.{not_rising, foreign, unfit}
-use Rattle.commands.proofs.Tags.{by_tags, none_some, then_some, mapped_some, some_since}
-use Rattle.commands.proofs.Fitting.{Tells, apart, verb_only, named_letter, fits_tells}
+use Rattle.commands.proofs.Tags.{by_tags, then_some, mapped_some, some_since}
+use Rattle.commands.proofs.Fitting.{Tells, apart, fits_tells}
+use Rattle.commands.proofs.Letters.{named_letter}
 
 -- each field passed the test when it came
 abbrev pub Kept : List Field → Type 0
@@ -24,7 +27,7 @@ Kept (f ∷ before) = Kept before × (keeps before f ≡ true)
 
 -- so each value is of its kind
 pub sound : (fs : List Field) → Kept fs → (t : ℕ) (v : List ℕ) → look t fs ≡ Some v → is_some (worth t v) ≡ true
-sound [] k t v e = absurd (none_some e)
+sound [] k t v e = absurd (none-some _ e)
 sound (f ∷ before) k t v e =
     ⊎_elim
     (λ (same : eqb f.0 t ≡ true).
@@ -35,29 +38,16 @@ sound (f ∷ before) k t v e =
     (λ (other : eqb f.0 t ≡ false). sound before k.0 t v (sym (cond-false (eqb f.0 t) (Some f.1) (look t before) other) ∙ e))
     (cases_Bool (eqb f.0 t))
 
--- the letter of a verb names it
-pub letter_names : (w : Verb) → verb_named (verb_letter w) ≡ Some w
-letter_names Issue = refl
-letter_names Amend = refl
-letter_names Withdraw = refl
-letter_names Draw = refl
-letter_names Return = refl
-
-names_letter : (l : ℕ) (w : Verb) → verb_named l ≡ Some w → l ≡ verb_letter w
-names_letter =
-    named_letter verb_named verb_letter letter_names (73 ∷ 65 ∷ 87 ∷ 68 ∷ 82 ∷ [])
-    ((Issue, refl), ((Amend, refl), ((Withdraw, refl), ((Draw, refl), ((Return, refl), tt))))) verb_only
-
 pub alone_is : (v : List ℕ) (x : ℕ) → alone v ≡ Some x → v ≡ x ∷ []
-alone_is [] x e = absurd (none_some e)
+alone_is [] x e = absurd (none-some _ e)
 alone_is (y ∷ []) x e = let s : y ≡ x = cc in ap (λ z. z ∷ []) s
-alone_is (y ∷ z ∷ r) x e = absurd (none_some e)
+alone_is (y ∷ z ∷ r) x e = absurd (none-some _ e)
 
 -- a verb that was read stands in its field
 pub verb_stands : (v : List ℕ) (w : Verb) → then verb_named (alone v) ≡ Some w → v ≡ verb_letter w ∷ []
 verb_stands v w e =
     let p = then_some verb_named (alone v) w e in
-    alone_is v p.0 p.1 ∙ ap (λ z. z ∷ []) (names_letter p.0 w p.2)
+    alone_is v p.0 p.1 ∙ ap (λ z. z ∷ []) (named_letter verb_letter verbs_all p.0 w p.2)
 
 -- the tags of a list
 any_mine : (x : ℕ) (xs : List ℕ) → any (x ∷ xs) x ≡ true
@@ -100,7 +90,7 @@ verb_tells v w e t =
     record {
       yes = λ q. (w, verb_stands v w e, any_has (tags_of w) t q);
       no = λ q p.
-          let s : Some w ≡ Some p.0 = sym e ∙ ap (λ (x : List ℕ). then verb_named (alone x)) p.1 ∙ letter_names p.0 in
+          let s : Some w ≡ Some p.0 = sym e ∙ ap (λ (x : List ℕ). then verb_named (alone x)) p.1 ∙ verb_lettered p.0 in
           let u : w ≡ p.0 = cc in
           apart (sym (has_any (tags_of w) t (subst (λ (x : Verb). Has (tags_of x) t) (sym u) p.2)) ∙ q);
     }

@@ -1,12 +1,12 @@
 -- Values and the bytes that spell them.
 use Rattle.std.proofs.Common.{◌≡◌, ℕ, zero, suc, ◌+◌, ◌*◌, ◌/◌, ◌%◌, ◌<◌, ◌⊎◌, List, [], ◌∷◌, ◌++◌, length, Some, None, Option, sym, refl, ap, ◌∙◌, subst, ⊎_elim, append-nil, div-add-mod', arith}
+use Rattle.std.proofs.lemmas.Option.{none-some}
 use Rattle.std.specs.List.{AllByRecursion}
 use Rattle.std.proofs.lemmas.Bool.{cases_order}
 use Rattle.states.specs.declared.report.Report.{Report}
 use Rattle.command_words.specs.Format.{pair_of, quad_of, entry_of, entries}
 use Rattle.commands.specs.Steps.{pair, quad, unknown, noted, reported}
 use Rattle.commands.specs.Law.{Entries}
-use Rattle.commands.proofs.Tags.{none_some}
 
 abbrev pub Bytes : List ℕ → Type 0
 Bytes xs = AllByRecursion (λ b. b < 256) xs
@@ -25,23 +25,23 @@ low : (x y : ℕ) → y < 256 → (x * 256 + y) % 256 ≡ y
 low x y h = omega arith
 
 pub pair_stands : (v : List ℕ) (n : ℕ) → Bytes v → pair v ≡ Some n → v ≡ pair_of n
-pair_stands [] n b e = absurd (none_some e)
-pair_stands (x ∷ []) n b e = absurd (none_some e)
+pair_stands [] n b e = absurd (none-some _ e)
+pair_stands (x ∷ []) n b e = absurd (none-some _ e)
 pair_stands (x ∷ y ∷ []) n b e =
     let s : x * 256 + y ≡ n = cc in
     subst (λ m. x ∷ y ∷ [] ≡ pair_of m) s (rw (high x y b.1.0, low x y b.1.0))
-pair_stands (x ∷ y ∷ z ∷ r) n b e = absurd (none_some e)
+pair_stands (x ∷ y ∷ z ∷ r) n b e = absurd (none-some _ e)
 
 pub quad_stands : (v : List ℕ) (n : ℕ) → Bytes v → quad v ≡ Some n → v ≡ quad_of n
-quad_stands [] n b e = absurd (none_some e)
-quad_stands (x ∷ []) n b e = absurd (none_some e)
-quad_stands (x ∷ y ∷ []) n b e = absurd (none_some e)
-quad_stands (x ∷ y ∷ z ∷ []) n b e = absurd (none_some e)
+quad_stands [] n b e = absurd (none-some _ e)
+quad_stands (x ∷ []) n b e = absurd (none-some _ e)
+quad_stands (x ∷ y ∷ []) n b e = absurd (none-some _ e)
+quad_stands (x ∷ y ∷ z ∷ []) n b e = absurd (none-some _ e)
 quad_stands (x ∷ y ∷ z ∷ w ∷ []) n b e =
     let s : ((x * 256 + y) * 256 + z) * 256 + w ≡ n = cc in
     subst (λ m. x ∷ y ∷ z ∷ w ∷ [] ≡ quad_of m) s
     (rw (high ((x * 256 + y) * 256 + z) w b.1.1.1.0, low ((x * 256 + y) * 256 + z) w b.1.1.1.0, high (x * 256 + y) z b.1.1.0, low (x * 256 + y) z b.1.1.0, high x y b.1.0, low x y b.1.0))
-quad_stands (x ∷ y ∷ z ∷ w ∷ u ∷ r) n b e = absurd (none_some e)
+quad_stands (x ∷ y ∷ z ∷ w ∷ u ∷ r) n b e = absurd (none-some _ e)
 
 -- a state begins with the entry of the next variable, or that variable is unknown
 record Begins (v : ℕ) (xs : List ℕ) : Type 0 where

@@ -1,11 +1,12 @@
 -- Cases on a number by a list of numbers, and options.
-use Rattle.std.proofs.Common.{◌≡◌, ℕ, Bool, true, false, cond, eqb, List, [], ◌∷◌, is_some, Some, None, Ok, Err, Option, sym, refl, subst, ⊎_elim, arith}
-use Rattle.std.specs.Option.{option_map, ok_or}
+use Rattle.std.proofs.Common.{◌≡◌, ℕ, true, false, eqb, List, [], ◌∷◌, is_some, Some, None, Ok, Err, Option, sym, refl, subst, ⊎_elim, arith}
+use Rattle.std.proofs.lemmas.Option.{none-some}
+use Rattle.std.specs.Option.{option_map, ok_or, option_and_then as then}
 use Rattle.std.specs.List.{AllByRecursion}
 use Rattle.std.proofs.lemmas.Bool.{eqb-true, cases_Bool}
 use Rattle.command_words.specs.Format.{kind_of}
 use Rattle.command_words.specs.Format.Kind.{unknown}
-use Rattle.commands.specs.Steps.{then, worth}
+use Rattle.commands.specs.Steps.{worth}
 
 -- a number is one of the list, or none of it
 pub by_tags : (P : ℕ → Type 0) (t : ℕ) (ks : List ℕ) → AllByRecursion P ks → (AllByRecursion (λ k. eqb t k ≡ false) ks → P t) → P t
@@ -20,20 +21,13 @@ tags = 1 ∷ 2 ∷ 3 ∷ 4 ∷ 5 ∷ 6 ∷ 7 ∷ 8 ∷ 9 ∷ 10 ∷ []
 pub ten : (P : ℕ → Type 0) → P 1 → P 2 → P 3 → P 4 → P 5 → P 6 → P 7 → P 8 → P 9 → P 10 → AllByRecursion P tags
 ten P a b c d e f g h i j = (a, (b, (c, (d, (e, (f, (g, (h, (i, (j, tt))))))))))
 
-pub none_some : {X : Type 0} {x : X} → None ≡ Some x → ⊥
-none_some e = let z : ◌≡◌ {A = ℕ} 0 1 = cc in omega arith
-
 pub then_some : {X Y : Type 0} (F : X → Option Y) (o : Option X) (y : Y) → then F o ≡ Some y → (x : X) × (o ≡ Some x) × (F x ≡ Some y)
-then_some F None y e = absurd (none_some e)
+then_some F None y e = absurd (none-some _ e)
 then_some F (Some x) y e = (x, refl, e)
 
 pub mapped_some : {X Y : Type 0} (F : X → Y) (o : Option X) (y : Y) → option_map F o ≡ Some y → (x : X) × (o ≡ Some x) × (y ≡ F x)
-mapped_some F None y e = absurd (none_some e)
+mapped_some F None y e = absurd (none-some _ e)
 mapped_some F (Some x) y e = (x, refl, cc)
-
-pub cond_some : {X : Type 0} (b : Bool) (x y : X) → cond b (Some x) None ≡ Some y → (b ≡ true) × (y ≡ x)
-cond_some true x y e = (refl, cc)
-cond_some false x y e = absurd (none_some e)
 
 pub some_since : {X : Type 0} (o : Option X) → is_some o ≡ true → (x : X) × (o ≡ Some x)
 some_since None e = let z : ◌≡◌ {A = ℕ} 0 1 = cc in absurd (omega arith)

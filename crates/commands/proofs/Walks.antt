@@ -1,12 +1,12 @@
 -- The walk over a record, one field at a time.
 use Rattle.std.proofs.Common.{◌≡◌, ℕ, suc, ◌+◌, ◌*◌, ◌<◌, ◌≤◌, Bool, true, false, cond, leb, List, [], ◌∷◌, ◌++◌, length, take, drop, Some, None, Err, sym, refl, ap, ◌∙◌, add-zero, arith, take-append-drop}
+use Rattle.std.proofs.lemmas.Option.{none-some}
 use Rattle.std.proofs.lemmas.List.{length-take-le}
 use Rattle.std.proofs.lemmas.Bool.{leb-true}
 use Rattle.command_words.specs.Fields.{Field}
 use Rattle.commands.specs.Steps.{cut}
 use Rattle.commands.specs.Law.{ill}
 use Rattle.commands.specs.Reading.{next, ended, walk}
-use Rattle.commands.proofs.Tags.{none_some}
 
 -- where a first field was found: its tag, two bytes of length, its value, the rest
 pub record Stands (xs : List ℕ) (f : Field) (rest : List ℕ) : Type 0 where
@@ -26,12 +26,12 @@ cut_at_stands true t h l r p e q =
       is = ap (λ (x : List ℕ). t ∷ h ∷ l ∷ x) (sym (take-append-drop (h * 256 + l) r)) ∙ ap (λ (g : Field × List ℕ). g.0.0 ∷ h ∷ l ∷ (g.0.1 ++ g.1)) u;
       long = ap (λ (g : Field × List ℕ). length g.0.1) (sym u) ∙ length-take-le (h * 256 + l) r k;
     }
-cut_at_stands false t h l r p e q = absurd (none_some q)
+cut_at_stands false t h l r p e q = absurd (none-some _ q)
 
 pub cut_stands : (xs : List ℕ) (p : Field × List ℕ) → cut xs ≡ Some p → Stands xs p.0 p.1
-cut_stands [] p e = absurd (none_some e)
-cut_stands (t ∷ []) p e = absurd (none_some e)
-cut_stands (t ∷ h ∷ []) p e = absurd (none_some e)
+cut_stands [] p e = absurd (none-some _ e)
+cut_stands (t ∷ []) p e = absurd (none-some _ e)
+cut_stands (t ∷ h ∷ []) p e = absurd (none-some _ e)
 cut_stands (t ∷ h ∷ l ∷ r) p e = cut_at_stands (leb (h * 256 + l) (length r)) t h l r p refl e
 
 walk_skip : (v rest : List ℕ) (fs : List Field) (o : ℕ) → walk (length v) fs o (v ++ rest) ≡ walk 0 fs (o + length v) rest

@@ -1,5 +1,6 @@
 -- A record that has every field of its command is what is written of it.
 use Rattle.std.proofs.Common.{◌≡◌, ℕ, ◌<◌, ◌≤◌, true, false, eqb, List, [], ◌∷◌, Some, None, Option, sym, refl, ap, ◌∙◌, subst, ⊎_elim, append-nil, arith, lit<}
+use Rattle.std.proofs.lemmas.Option.{none-some}
 use Rattle.std.specs.Option.{option_or}
 use Rattle.std.specs.List.{ContainsAt as Has, AllByRecursion}
 use Rattle.std.proofs.ByRecursion.{all-has, all_has_itself, All-weaker}
@@ -12,7 +13,7 @@ use Rattle.command_words.specs.Format.{verb_of, verb_letter, tags_of, default_of
 use Rattle.commands.specs.Drafts.{closed, draft_of}
 use Rattle.commands.specs.Reading.{reading}
 use Rattle.commands.specs.Law.{VerbHas, Lawful, says, Makes, WholeIsWritten}
-use Rattle.commands.proofs.Tags.{none_some, ok_some}
+use Rattle.commands.proofs.Tags.{ok_some}
 use Rattle.commands.proofs.Walks.{walk_end}
 use Rattle.commands.proofs.Sound.{lawful_kept, any_has, first_tags}
 use Rattle.commands.proofs.Spelling.{Bytes}
@@ -30,7 +31,7 @@ lawful_falls (f ∷ before) l = (lawful_falls before l.0, l.1.rises)
 
 -- a value that is found stands at most at the last tag
 found_below : (fs : List Field) → Falls fs → (t : ℕ) (v : List ℕ) → look t fs ≡ Some v → t ≤ last_tag fs
-found_below [] k t v e = absurd (none_some e)
+found_below [] k t v e = absurd (none-some _ e)
 found_below (f ∷ before) k t v e =
     ⊎_elim
     (λ (s : eqb f.0 t ≡ true). omega (arith, eqb-true f.0 t s))
@@ -55,8 +56,8 @@ above_none fs k t h (Some v) e = absurd (omega (arith, found_below fs k t v e, h
 
 pub one_list : (fs gs : List Field) → Falls fs → Falls gs → Alike fs gs → fs ≡ gs
 one_list [] [] p q a = refl
-one_list [] (g ∷ gs) p q a = absurd (none_some (a g.0 ∙ look_here g gs))
-one_list (f ∷ fs) [] p q a = absurd (none_some (sym (a f.0) ∙ look_here f fs))
+one_list [] (g ∷ gs) p q a = absurd (none-some _ (a g.0 ∙ look_here g gs))
+one_list (f ∷ fs) [] p q a = absurd (none-some _ (sym (a f.0) ∙ look_here f fs))
 one_list (f ∷ fs) (g ∷ gs) p q a =
     let down = found_below (g ∷ gs) q f.0 f.1 (sym (a f.0) ∙ look_here f fs) in
     let up = found_below (f ∷ fs) p g.0 g.1 (a g.0 ∙ look_here g gs) in
@@ -86,14 +87,14 @@ only_here : (f : Field) (t : ℕ) (v : List ℕ) → look t (f ∷ []) ≡ Some 
 only_here f t v e =
     ⊎_elim
     (λ (s : eqb f.0 t ≡ true). eqb-true f.0 t s)
-    (λ (s : eqb f.0 t ≡ false). absurd (none_some (sym (cond-false (eqb f.0 t) (Some f.1) None s) ∙ e)))
+    (λ (s : eqb f.0 t ≡ false). absurd (none-some _ (sym (cond-false (eqb f.0 t) (Some f.1) None s) ∙ e)))
     (cases_Bool (eqb f.0 t))
 
 has_first : (w : Verb) → Has (tags_of w) 1
 has_first w = any_has (tags_of w) 1 (first_tags w).0
 
 tag_of_verb : (w : Verb) (fs : List Field) → Lawful fs → look 1 fs ≡ Some (verb_letter w ∷ []) → (t : ℕ) (v : List ℕ) → look t fs ≡ Some v → Has (tags_of w) t
-tag_of_verb w [] l e t v h = absurd (none_some h)
+tag_of_verb w [] l e t v h = absurd (none-some _ h)
 tag_of_verb w (f ∷ before) l e t v h =
     ⊎_elim
     (λ (one : f.0 ≡ 1).
@@ -112,18 +113,18 @@ tag_of_verb w (f ∷ before) l e t v h =
 
 -- the fields of a command
 falls_of : (c : Command) → Falls (fields_of c)
-falls_of (commands.Issue c h g x y m r) = ((((((((tt, lit< tt), lit< tt), lit< tt), lit< tt), lit< tt), lit< tt), lit< tt), lit< tt)
-falls_of (commands.Amend c x y m r n) = (((((((tt, lit< tt), lit< tt), lit< tt), lit< tt), lit< tt), lit< tt), lit< tt)
+falls_of (commands.Issue c h g terms) = ((((((((tt, lit< tt), lit< tt), lit< tt), lit< tt), lit< tt), lit< tt), lit< tt), lit< tt)
+falls_of (commands.Amend c n terms) = (((((((tt, lit< tt), lit< tt), lit< tt), lit< tt), lit< tt), lit< tt), lit< tt)
 falls_of (commands.Withdraw c n) = (((tt, lit< tt), lit< tt), lit< tt)
 falls_of (commands.Draw c h r o) = (((((tt, lit< tt), lit< tt), lit< tt), lit< tt), lit< tt)
 falls_of (commands.Return c h) = (((tt, lit< tt), lit< tt), lit< tt)
 
 some_none : {X : Type 0} {x : X} → Some x ≡ None → ⊥
-some_none e = none_some (sym e)
+some_none e = none-some _ (sym e)
 
 tags_in : (c : Command) → AllByRecursion (λ t. look t (fields_of c) ≡ None → ⊥) (tags_of (verb_of c))
-tags_in (commands.Issue c h g x y m r) = (some_none, (some_none, (some_none, (some_none, (some_none, (some_none, (some_none, (some_none, tt))))))))
-tags_in (commands.Amend c x y m r n) = (some_none, (some_none, (some_none, (some_none, (some_none, (some_none, (some_none, tt)))))))
+tags_in (commands.Issue c h g terms) = (some_none, (some_none, (some_none, (some_none, (some_none, (some_none, (some_none, (some_none, tt))))))))
+tags_in (commands.Amend c n terms) = (some_none, (some_none, (some_none, (some_none, (some_none, (some_none, (some_none, tt)))))))
 tags_in (commands.Withdraw c n) = (some_none, (some_none, (some_none, tt)))
 tags_in (commands.Draw c h r o) = (some_none, (some_none, (some_none, (some_none, (some_none, tt)))))
 tags_in (commands.Return c h) = (some_none, (some_none, (some_none, tt)))
@@ -139,7 +140,7 @@ all_present fs [] m p = tt
 all_present fs (g ∷ gs) m p = (present (look g.0 fs) (default_of g.0) g.1 m.0 p.0, all_present fs gs m.1 p.1)
 
 found_there : (fs gs : List Field) → AllByRecursion (λ (f : Field). look f.0 fs ≡ Some f.1) gs → (t : ℕ) (v : List ℕ) → look t gs ≡ Some v → look t fs ≡ Some v
-found_there fs [] a t v e = absurd (none_some e)
+found_there fs [] a t v e = absurd (none-some _ e)
 found_there fs (g ∷ gs) a t v e =
     ⊎_elim
     (λ (s : eqb g.0 t ≡ true). ap (λ x. look x fs) (sym (eqb-true g.0 t s)) ∙ a.0 ∙ sym (cond-true (eqb g.0 t) (Some g.1) (look t gs) s) ∙ e)

@@ -1,17 +1,18 @@
 -- What the reader's draft holds and becomes. The law of reading does not cite this file.
-use Rattle.std.specs.Prelude.{ℕ, Bool, true, false, cond, ◌&&◌, List, [], ◌∷◌, Some, None, Ok, Err, Option, Result, ◌==◌, nat_lt}
-use Rattle.std.specs.Option.{option_map, unwrap_or}
-use Rattle.faults.specs.declared.Fault.{Fault}
+use Rattle.std.specs.Prelude.{ℕ, Bool, true, false, cond, ◌&&◌, List, [], ◌∷◌, Some, None, Option, ◌==◌, nat_lt}
+use Rattle.std.specs.Option.{option_map, unwrap_or, option_and_then as then}
+use Rattle.states.specs.declared.report.Report.{Report}
 use Rattle.grants.specs.declared.Mode.TheVariants.{Expiring}
+use Rattle.grants.specs.declared.terms.Terms.{Terms}
 use Rattle.command_words.specs.declared.Verb.{Verb}
 use Rattle.command_words.specs.declared.Verb.TheVariants as verbs
 use Rattle.command_words.specs.declared.Command.{Command}
 use Rattle.command_words.specs.declared.Command.TheVariants as commands
+use Rattle.commands.specs.declared.fields.Parsed.{Parsed}
 use Rattle.commands.specs.declared.drafts.Draft.{Draft}
-use Rattle.commands.specs.declared.reader.Step.{Step}
 use Rattle.command_words.specs.Fields.{Field, last_tag, look}
 use Rattle.command_words.specs.Format.{tags_of}
-use Rattle.commands.specs.Steps.{then, cut, alone, pair, quad, verb_named, mode_named, outcome_named, unknown, reported, Said, tag_of, worth}
+use Rattle.commands.specs.Steps.{parsed, cut, alone, pair, quad, verb_named, mode_named, outcome_named, unknown, reported, Said, tag_of, worth}
 use Rattle.commands.specs.Steps.Said.{verb, caller, hook, grantee, execute, onward, mode, state, outcome, number}
 
 abbrev pub blank : Draft
@@ -47,12 +48,8 @@ abbrev pub admitted : Draft → Said → Option Draft
 admitted d s = cond (may_come d (tag_of s)) (Some (noting d s)) None
 
 -- one field of the record
-abbrev pub left : Step → Draft × List ℕ
-left s = (s.draft, s.rest.now)
-
-abbrev pub advanced : Result Step Fault → Result (Draft × List ℕ) Fault
-advanced (Ok s) = Ok (left s)
-advanced (Err e) = Err e
+abbrev pub left : Parsed Draft → Draft × List ℕ
+left = parsed (λ (d : Draft). d)
 
 abbrev pub with_rest : List ℕ → Draft → Draft × List ℕ
 with_rest rest d = (d, rest)
@@ -63,10 +60,17 @@ taken_by d f = then (λ (s : Said). option_map (with_rest f.1) (admitted d s)) (
 abbrev pub taken : Draft → List ℕ → Option (Draft × List ℕ)
 taken d bs = then (taken_by d) (cut bs)
 
+-- the terms, if the state is not missing
+abbrev pub terms_with : Draft → Report → Terms
+terms_with d r = record { execute = d.execute; onward = d.onward; mode = d.mode; report = r }
+
+abbrev pub terms_in : Draft → Option Terms
+terms_in d = option_map (terms_with d) d.report
+
 -- the command, if no field is missing
 abbrev pub closed_by : Draft → ℕ → Verb → Option Command
-closed_by d c verbs.Issue = then (λ h. then (λ g. option_map (λ s. commands.Issue c h g d.execute d.onward d.mode s) d.report) d.grantee) d.hook
-closed_by d c verbs.Amend = then (λ s. option_map (λ n. commands.Amend c d.execute d.onward d.mode s n) d.number) d.report
+closed_by d c verbs.Issue = then (λ h. then (λ g. option_map (λ t. commands.Issue c h g t) (terms_in d)) d.grantee) d.hook
+closed_by d c verbs.Amend = then (λ n. option_map (λ t. commands.Amend c n t) (terms_in d)) d.number
 closed_by d c verbs.Withdraw = option_map (λ n. commands.Withdraw c n) d.number
 closed_by d c verbs.Draw = then (λ h. then (λ s. option_map (λ o. commands.Draw c h s o) d.outcome) d.report) d.hook
 closed_by d c verbs.Return = option_map (λ h. commands.Return c h) d.hook

@@ -1,10 +1,10 @@
 -- The reading of a record as a function of its bytes. It is the only answer that the law of reading allows.
 use Rattle.std.specs.Prelude.{ℕ, zero, suc, ◌+◌, Bool, cond, ◌&&◌, List, [], ◌∷◌, length, is_some, Some, None, Err, Option, Result}
-use Rattle.std.specs.Option.{ok_or}
+use Rattle.std.specs.Option.{ok_or, option_and_then as then}
 use Rattle.faults.specs.declared.Fault.{Fault}
 use Rattle.command_words.specs.declared.Command.{Command}
 use Rattle.command_words.specs.Fields.{Field}
-use Rattle.commands.specs.Steps.{then, cut, worth}
+use Rattle.commands.specs.Steps.{cut, worth}
 use Rattle.commands.specs.Law.{ill}
 use Rattle.commands.specs.Drafts.{may_come, draft_of, closed}
 

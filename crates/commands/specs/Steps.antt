@@ -1,26 +1,25 @@
 -- What the reader's inner functions answer: the first field, values, tokens. The law of reading does not cite this file.
 use Rattle.std.specs.Prelude.{ℕ, ◌+◌, ◌*◌, Bool, true, false, cond, List, [], ◌∷◌, length, take, drop, Some, None, Option, ◌==◌, nat_le, nat_lt}
-use Rattle.std.specs.Option.{option_map}
+use Rattle.std.specs.Option.{option_map, option_and_then as then}
 use Rattle.states.specs.declared.report.Report.{Report}
 use Rattle.grants.specs.declared.Mode.{Mode}
-use Rattle.grants.specs.declared.Mode.TheVariants.{Expiring, Resting}
 use Rattle.command_words.specs.declared.Verb.{Verb}
-use Rattle.command_words.specs.declared.Verb.TheVariants as verbs
 use Rattle.command_words.specs.declared.Outcome.{Outcome}
-use Rattle.command_words.specs.declared.Outcome.TheVariants.{Taken, Left}
-use Rattle.commands.specs.declared.fields.First.{First}
+use Rattle.commands.specs.declared.fields.Parsed.{Parsed}
+use Rattle.commands.specs.declared.fields.Field.{Field as Piece}
 use Rattle.commands.specs.declared.tokens.Token as tokens
 use Rattle.commands.specs.declared.tokens.Token.{Token}
 use Rattle.command_words.specs.Fields.{Field}
+use Rattle.command_words.specs.Letters.{named}
+use Rattle.command_words.specs.Format.{verb_letter, verbs_all, mode_letter, modes_all, outcome_letter, outcomes_all}
 
--- one answer after another
-abbrev pub then : {X Y : Type 0} → (X → Option Y) → Option X → Option Y
-then f None = None
-then f (Some x) = f x
+-- what was read at the front of some bytes, seen in another way, and what stands behind it
+abbrev pub parsed : {T X : Type 0} → (T → X) → Parsed T → X × List ℕ
+parsed view p = (view p.value, p.rest.now)
 
 -- the first field and what stands behind it, if it is whole
-abbrev pub seen : First → Field × List ℕ
-seen f = ((f.tag, f.value.now), f.rest.now)
+abbrev pub seen : Parsed Piece → Field × List ℕ
+seen = parsed (λ (f : Piece). (f.tag, f.value.now))
 
 abbrev pub cut_at : ℕ → ℕ → List ℕ → Option (Field × List ℕ)
 cut_at t n r = cond (nat_le n (length r)) (Some ((t, take n r), drop n r)) None
@@ -53,13 +52,13 @@ quad (x ∷ y ∷ z ∷ w ∷ v ∷ r) = None
 
 -- letters
 abbrev pub verb_named : ℕ → Option Verb
-verb_named b = cond (b == 73) (Some verbs.Issue) (cond (b == 65) (Some verbs.Amend) (cond (b == 87) (Some verbs.Withdraw) (cond (b == 68) (Some verbs.Draw) (cond (b == 82) (Some verbs.Return) None))))
+verb_named = named verb_letter verbs_all
 
 abbrev pub mode_named : ℕ → Option Mode
-mode_named b = cond (b == 69) (Some Expiring) (cond (b == 82) (Some Resting) None)
+mode_named = named mode_letter modes_all
 
 abbrev pub outcome_named : ℕ → Option Outcome
-outcome_named b = cond (b == 84) (Some Taken) (cond (b == 76) (Some Left) None)
+outcome_named = named outcome_letter outcomes_all
 
 -- states: the variables rise past `last`, up to 7, each with two bytes behind it; and what they tell
 abbrev pub rising : ℕ → List ℕ → Bool

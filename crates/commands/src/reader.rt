@@ -1,48 +1,27 @@
 //! The reader of a command record.
 ghost use Rattle.std.specs.Prelude.{◌≡◌, Result};
-ghost use Rattle.std.specs.Option.{option_map, ok_or};
-ghost use Rattle.commands.specs.Drafts.{taken, left, advanced, closed};
-ghost use Rattle.commands.specs.Law.{ill, Reads, WrittenIsRead, WholeIsWritten};
+ghost use Rattle.std.specs.Option.{option_map};
+ghost use Rattle.commands.specs.Drafts.{taken, left};
+ghost use Rattle.commands.specs.Law.{Reads, WrittenIsRead, WholeIsWritten};
 ghost use Rattle.commands.specs.Reading.{reading};
 
-use crate::drafts::{Draft, admit, blank_draft, close};
-use crate::fields::first_field;
+use crate::drafts::Draft;
+use crate::fields::{Parsed, first_field};
 use crate::tokens::token_of;
 use command_words::Command;
 use faults::{Fault, Refusal};
 
-/// A draft, and the bytes that are still to be read.
-#[derive(Clone, Copy)]
-struct Step<'a> {
-    draft: Draft,
-    rest: &'a [u8],
-}
-
 /// The draft with the first field, and the bytes behind it; none where that field breaks a rule.
-fn advance<'a>(draft: Draft, bytes: &'a [u8]) -> Option<Step<'a>>
+fn advance<'a>(draft: Draft, bytes: &'a [u8]) -> Option<Parsed<'a, Draft>>
     ensures { option_map left result ≡ taken draft bytes.now }
 {
     let first = first_field(bytes)?;
-    let token = token_of(first.tag, first.value)?;
-    let draft = admit(draft, token)?;
-    Some(Step {
-        draft,
+    let token = token_of(first.value)?;
+    let draft = draft.admit(token)?;
+    Some(Parsed {
+        value: draft,
         rest: first.rest,
     })
-}
-
-/// The same, refused at the offset of that field.
-fn advance_at<'a>(draft: Draft, bytes: &'a [u8], at: usize) -> Result<Step<'a>, Fault>
-    ensures { advanced result ≡ ok_or (taken draft bytes.now) (ill at) }
-{
-    advance(draft, bytes).ok_or(Refusal::CommandIllFormed.at(at))
-}
-
-/// The whole command, refused at the end where a field is missing.
-fn finish(draft: Draft, end: usize) -> Result<Command, Fault>
-    ensures { result ≡ ok_or (closed draft) (ill end) }
-{
-    close(draft).ok_or(Refusal::CommandIllFormed.at(end))
 }
 
 /// The command that the record holds, or the offset of its first field that breaks a rule, or
@@ -61,12 +40,17 @@ pub fn read(bytes: &[u8]) -> Result<Command, Fault>
 fn walk(bytes: &[u8]) -> Result<Command, Fault>
     ensures { result ≡ reading bytes.now }
 {
-    let mut draft = blank_draft();
+    let mut draft = Draft::blank();
     let mut rest = bytes;
+    // stays: a fold over the fields would carry the draft and the offset of each along, and reads no
+    // plainer than this loop.
     while !rest.is_empty() {
-        let step = advance_at(draft, rest, bytes.len() - rest.len())?;
-        draft = step.draft;
+        let at = bytes.len() - rest.len();
+        let step = advance(draft, rest).ok_or(Refusal::CommandIllFormed.at(at))?;
+        draft = step.value;
         rest = step.rest;
     }
-    finish(draft, bytes.len())
+    draft
+        .close()
+        .ok_or(Refusal::CommandIllFormed.at(bytes.len()))
 }

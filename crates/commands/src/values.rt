@@ -1,72 +1,9 @@
-//! The values of fields: numbers of one, two and four bytes, letters, and states.
+//! The value of a state: what a caller tells, entry by entry.
 ghost use Rattle.std.specs.Prelude.{◌≡◌};
-ghost use Rattle.commands.specs.Steps.{alone, pair, quad, verb_named, mode_named, outcome_named, rising, noted, reported, unknown};
+ghost use Rattle.commands.specs.Steps.{rising, noted, reported, unknown};
 
-use command_words::{Outcome, Verb};
-use grants::Mode;
 use states::report::Report;
-
-pub(crate) fn one(value: &[u8]) -> Option<u8>
-    ensures { result ≡ alone value.now }
-{
-    match value {
-        [x] => Some(*x),
-        _ => None,
-    }
-}
-
-pub(crate) fn two(value: &[u8]) -> Option<u16>
-    ensures { result ≡ pair value.now }
-{
-    match value {
-        [hi, lo] => Some(*hi as u16 * 256 + *lo as u16),
-        _ => None,
-    }
-}
-
-pub(crate) fn four(value: &[u8]) -> Option<u32>
-    ensures { result ≡ quad value.now }
-{
-    match value {
-        [a, b, c, d] => {
-            Some(((*a as u32 * 256 + *b as u32) * 256 + *c as u32) * 256 + *d as u32)
-        }
-        _ => None,
-    }
-}
-
-pub(crate) fn verb_of(letter: u8) -> Option<Verb>
-    ensures { result ≡ verb_named letter }
-{
-    match letter {
-        b'I' => Some(Verb::Issue),
-        b'A' => Some(Verb::Amend),
-        b'W' => Some(Verb::Withdraw),
-        b'D' => Some(Verb::Draw),
-        b'R' => Some(Verb::Return),
-        _ => None,
-    }
-}
-
-pub(crate) fn mode_of(letter: u8) -> Option<Mode>
-    ensures { result ≡ mode_named letter }
-{
-    match letter {
-        b'E' => Some(Mode::Expiring),
-        b'R' => Some(Mode::Resting),
-        _ => None,
-    }
-}
-
-pub(crate) fn outcome_of(letter: u8) -> Option<Outcome>
-    ensures { result ≡ outcome_named letter }
-{
-    match letter {
-        b'T' => Some(Outcome::Taken),
-        b'L' => Some(Outcome::Left),
-        _ => None,
-    }
-}
+use states::state::{DAY, GROUPS, LEVEL, PATH, STATUS, TIME};
 
 /// Whether the value is a state: a variable and two bytes each, rising, from 2 to 7.
 pub(crate) fn is_state(value: &[u8]) -> bool
@@ -74,6 +11,8 @@ pub(crate) fn is_state(value: &[u8]) -> bool
 {
     let mut last: u8 = 1;
     let mut rest = value;
+    // stays: the pattern names an entry's bytes and what is left over; chunks of three would be
+    // indexed, and their remainder asked for apart.
     while let [v, _, _, more @ ..] = rest {
         if *v <= last || *v > 7 {
             return false;
@@ -85,35 +24,17 @@ pub(crate) fn is_state(value: &[u8]) -> bool
 }
 
 /// The report with one value more.
-fn note(report: Report, v: u8, n: u16) -> Report
-    ensures { result ≡ noted report v n }
+fn note(report: &mut Report, v: u8, n: u16)
+    ensures { report.new ≡ noted report.old v n }
 {
     match v {
-        2 => Report {
-            time: Some(n),
-            ..report
-        },
-        3 => Report {
-            day: Some(n),
-            ..report
-        },
-        4 => Report {
-            groups: Some(n),
-            ..report
-        },
-        5 => Report {
-            path: Some(n),
-            ..report
-        },
-        6 => Report {
-            level: Some(n),
-            ..report
-        },
-        7 => Report {
-            status: Some(n),
-            ..report
-        },
-        _ => report,
+        TIME => report.time = Some(n),
+        DAY => report.day = Some(n),
+        GROUPS => report.groups = Some(n),
+        PATH => report.path = Some(n),
+        LEVEL => report.level = Some(n),
+        STATUS => report.status = Some(n),
+        _ => {}
     }
 }
 
@@ -121,17 +42,11 @@ fn note(report: Report, v: u8, n: u16) -> Report
 pub(crate) fn report_of(value: &[u8]) -> Report
     ensures { result ≡ reported unknown value.now }
 {
-    let mut report = Report {
-        time: None,
-        day: None,
-        groups: None,
-        path: None,
-        level: None,
-        status: None,
-    };
+    let mut report = Report::default();
     let mut rest = value;
+    // stays: as in `is_state`, the pattern names what chunks of three would index.
     while let [v, hi, lo, more @ ..] = rest {
-        report = note(report, *v, *hi as u16 * 256 + *lo as u16);
+        note(&mut report, *v, u16::from_be_bytes([*hi, *lo]));
         rest = more;
     }
     report

@@ -3,13 +3,16 @@
 
 #[cfg(test)]
 mod tests {
+    use arrayvec::ArrayVec;
     use command_words::{Command, Outcome};
     use command_writer::writer::write;
     use commands::reader::read;
     use grants::Mode;
+    use grants::terms::Terms;
     use states::report::Report;
     use std::process::Abort;
 
+    // stays: a constant can't call `Report::default()`.
     const SILENT: Report = Report {
         time: None,
         day: None,
@@ -21,11 +24,8 @@ mod tests {
 
     const TOLD: Report = Report {
         time: Some(600),
-        day: None,
-        groups: None,
-        path: None,
-        level: None,
         status: Some(1),
+        ..SILENT
     };
 
     // The record reads as the command.
@@ -38,9 +38,7 @@ mod tests {
         let mut out = [9u8; 64];
         let end = write(command, &mut out);
         assert!(rt; &out[..end] == record);
-        for zero in &out[end..] {
-            assert_eq!(rt; *zero, 0);
-        }
+        assert!(rt; out[end..].iter().all(|&byte| byte == 0));
         reads(rt, record, command);
     }
 
@@ -50,10 +48,12 @@ mod tests {
             caller: 5,
             hook: 7,
             grantee: 9,
-            execute: 2,
-            onward: 3,
-            mode: Mode::Resting,
-            report: TOLD,
+            terms: Terms {
+                execute: 2,
+                onward: 3,
+                mode: Mode::Resting,
+                report: TOLD,
+            },
         };
         stands_for(
             &rt,
@@ -66,11 +66,13 @@ mod tests {
     fn amendments(rt: HostRuntime) {
         let amend = Command::Amend {
             caller: 5,
-            execute: 2,
-            onward: 3,
-            mode: Mode::Expiring,
-            report: SILENT,
             number: 263,
+            terms: Terms {
+                execute: 2,
+                onward: 3,
+                mode: Mode::Expiring,
+                report: SILENT,
+            },
         };
         stands_for(
             &rt,
@@ -143,10 +145,12 @@ mod tests {
                 caller: 5,
                 hook: 7,
                 grantee: 9,
-                execute: 0,
-                onward: 3,
-                mode: Mode::Resting,
-                report: SILENT,
+                terms: Terms {
+                    execute: 0,
+                    onward: 3,
+                    mode: Mode::Resting,
+                    report: SILENT,
+                },
             },
         );
         reads(
@@ -156,10 +160,12 @@ mod tests {
                 caller: 5,
                 hook: 7,
                 grantee: 9,
-                execute: 2,
-                onward: 1,
-                mode: Mode::Resting,
-                report: SILENT,
+                terms: Terms {
+                    execute: 2,
+                    onward: 1,
+                    mode: Mode::Resting,
+                    report: SILENT,
+                },
             },
         );
     }
@@ -173,10 +179,12 @@ mod tests {
                 caller: 5,
                 hook: 7,
                 grantee: 9,
-                execute: 0,
-                onward: 1,
-                mode: Mode::Expiring,
-                report: SILENT,
+                terms: Terms {
+                    execute: 0,
+                    onward: 1,
+                    mode: Mode::Expiring,
+                    report: SILENT,
+                },
             },
         );
         reads(
@@ -184,11 +192,13 @@ mod tests {
             b"\x01\0\x01A\x02\0\x01\x05\x08\0\0\x0a\0\x04\0\0\x01\x07",
             Command::Amend {
                 caller: 5,
-                execute: 0,
-                onward: 1,
-                mode: Mode::Expiring,
-                report: SILENT,
                 number: 263,
+                terms: Terms {
+                    execute: 0,
+                    onward: 1,
+                    mode: Mode::Expiring,
+                    report: SILENT,
+                },
             },
         );
     }
@@ -204,10 +214,12 @@ mod tests {
             caller: 1,
             hook: 0,
             grantee: 2,
-            execute: 0,
-            onward: 2,
-            mode: Mode::Resting,
-            report: at_ten,
+            terms: Terms {
+                execute: 0,
+                onward: 2,
+                mode: Mode::Resting,
+                report: at_ten,
+            },
         };
         reads(
             &rt,
@@ -225,11 +237,13 @@ mod tests {
     fn further_records_of_the_page_that_are_read(rt: HostRuntime) {
         let amend = Command::Amend {
             caller: 1,
-            execute: 0,
-            onward: 1,
-            mode: Mode::Expiring,
-            report: SILENT,
             number: 3,
+            terms: Terms {
+                execute: 0,
+                onward: 1,
+                mode: Mode::Expiring,
+                report: SILENT,
+            },
         };
         reads(
             &rt,
@@ -289,66 +303,36 @@ mod tests {
         }
     }
 
-    // A record in the making.
-    #[derive(Clone, Copy)]
-    struct Record {
-        bytes: [u8; 96],
-        end: usize,
-    }
-
-    impl Record {
-        fn put(&mut self, part: &[u8]) {
-            for b in part {
-                if self.end < 96 {
-                    self.bytes[self.end] = *b;
-                    self.end += 1;
-                }
-            }
-        }
-
-        // The offset at which the record is refused; 999 where it is read.
-        fn place(&self) -> usize {
-            if self.end > 96 {
-                return 1000;
-            }
-            match read(&self.bytes[..self.end]) {
-                Ok(_) => 999,
-                Err(fault) => fault.place,
-            }
-        }
-    }
-
     // A record, by the letters of its first fields and the bytes behind them, and the offset at
     // which it is refused.
     #[derive(Clone, Copy)]
     struct Case(&'static [u8], &'static [u8], usize);
 
-    fn place(letters: &[u8], tail: &[u8]) -> usize {
-        let mut record = Record {
-            bytes: [0; 96],
-            end: 0,
-        };
+    // The offset at which the record of these fields and the bytes behind them is refused; none
+    // where it is read.
+    fn place(letters: &[u8], tail: &[u8]) -> Option<usize> {
+        let mut record: ArrayVec<u8, 96> = ArrayVec::new();
         for letter in letters {
-            record.put(field(*letter));
+            let _ = record.try_extend_from_slice(field(*letter));
         }
-        record.put(tail);
-        record.place()
+        let _ = record.try_extend_from_slice(tail);
+        read(record.as_slice()).err().map(|fault| fault.place)
     }
 
     fn all_refused(rt: &impl Abort, cases: &[Case]) {
-        for case in cases {
-            assert_eq!(rt; place(case.0, case.1), case.2);
+        for Case(letters, tail, at) in cases {
+            assert_eq!(rt; place(letters, tail), Some(*at));
         }
     }
 
     // The whole records that the cases below change are read.
     #[test]
     fn whole_records(rt: HostRuntime) {
-        assert_eq!(rt; place(b"Ichgxyms", b""), 999);
-        assert_eq!(rt; place(b"Acxymsn", b""), 999);
-        assert_eq!(rt; place(b"Wcn", b""), 999);
-        assert_eq!(rt; place(b"Dchso", b""), 999);
-        assert_eq!(rt; place(b"Rch", b""), 999);
+        assert_eq!(rt; place(b"Ichgxyms", b""), None);
+        assert_eq!(rt; place(b"Acxymsn", b""), None);
+        assert_eq!(rt; place(b"Wcn", b""), None);
+        assert_eq!(rt; place(b"Dchso", b""), None);
+        assert_eq!(rt; place(b"Rch", b""), None);
     }
 
     // The records that docs/COMMANDS.md shows as refused, in its order.
@@ -394,7 +378,7 @@ mod tests {
 
     #[test]
     fn no_record_at_all(rt: HostRuntime) {
-        assert_eq!(rt; place(b"", b""), 0);
+        assert_eq!(rt; place(b"", b""), Some(0));
     }
 
     // Told at the end; at the start where the verb is missing.

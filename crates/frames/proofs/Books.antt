@@ -1,6 +1,7 @@
 -- The book is passed over field by field.
-use Rattle.std.proofs.Common.{◌≡◌, ℕ, zero, suc, ◌+◌, ◌*◌, ◌≤◌, min, Bool, true, false, cond, eqb, List, [], ◌∷◌, length, get_or, drop, sym, refl, ap, ◌∙◌, zero-add, arith, length-drop, drop-drop}
-use native.Mathlib.Nat.{zero-min, min-zero, suc-min-suc, min-le_left, le-min}
+use Rattle.std.proofs.Common.{◌≡◌, ℕ, zero, suc, ◌+◌, ◌-◌, ◌*◌, ◌<◌, ◌≤◌, min, Bool, true, false, cond, eqb, List, [], ◌∷◌, length, get_or, drop, sym, refl, ap, ◌∙◌, zero-add, arith, length-drop}
+use Rattle.std.proofs.lemmas.Bool.{cond-false}
+use native.Mathlib.Nat.{zero-min, min-zero, suc-min-suc, le-min}
 use Rattle.frames.specs.Frames.{condition_length, book_length}
 
 -- n bytes, then the book behind them
@@ -34,13 +35,6 @@ first_passed (b ∷ bs) = go (eqb b 0xC1) refl
         ap (λ (u : Bool). cond u (suc (book_length (2 + n) bs)) 0) e ∙ ap suc (skipped (2 + n) bs) ∙ s ∙ sym (ap (λ j. passing j (b ∷ bs)) k)
     go false e = sym (zero-add (book_length 0 (b ∷ bs)))
 
-within : (bs : List ℕ) → condition_length bs ≤ length bs
-within bs = go (eqb (get_or bs 0 0) 0xC1)
-  where
-    go : (t : Bool) → cond t (min (length bs) (3 + (get_or bs 1 0 * 256 + get_or bs 2 0))) 0 ≤ length bs
-    go true = min-le_left (length bs) (3 + (get_or bs 1 0 * 256 + get_or bs 2 0))
-    go false = omega arith
-
 pub none_there : (bs : List ℕ) → condition_length bs ≡ 0 → book_length 0 bs ≡ 0
 unfolding book_length
 none_there [] z = refl
@@ -53,21 +47,25 @@ none_there (b ∷ bs) z = go (eqb b 0xC1) z
         absurd (omega arith)
     go false e = refl
 
--- the next field lies within the bytes
-pub room : (bs : List ℕ) (at size : ℕ) → size ≡ condition_length (drop at bs) → at ≤ length bs → at + size ≤ length bs
-room bs at size e h = omega (arith, within (drop at bs), length-drop at bs)
+module _ (bs rest : List ℕ) (before : (length bs - length rest) + book_length 0 rest ≡ book_length 0 bs) where
+  -- one field more
+  pub passed : (size : ℕ) → size ≡ condition_length rest → size ≤ length rest → length rest ≤ length bs
+      → ((length bs - length (drop size rest)) + book_length 0 (drop size rest) ≡ book_length 0 bs) × (length (drop size rest) ≤ length bs)
+  passed size e w h =
+      let f : book_length 0 rest ≡ size + book_length 0 (drop size rest) = first_passed rest ∙ ap (λ n. passing n rest) (sym e) in
+      let d : length (drop size rest) ≡ length rest - size = length-drop size rest in
+      (omega arith, omega arith)
 
--- one field more
-pub passed : (bs : List ℕ) (at size : ℕ) → size ≡ condition_length (drop at bs) → at + book_length 0 (drop at bs) ≡ book_length 0 bs
-    → (at + size) + book_length 0 (drop (at + size) bs) ≡ book_length 0 bs
-passed bs at size e h =
-    let f : book_length 0 (drop at bs) ≡ passing size (drop at bs) = first_passed (drop at bs) ∙ ap (λ n. passing n (drop at bs)) (sym e) in
-    let d : book_length 0 (drop size (drop at bs)) ≡ book_length 0 (drop (at + size) bs) = ap (book_length 0) (drop-drop size at bs) in
-    omega arith
+  -- no field more
+  pub over : condition_length rest ≡ 0 → length bs - length rest ≡ book_length 0 bs
+  over z =
+      let f : book_length 0 rest ≡ 0 = none_there rest z in
+      omega arith
 
--- no field more
-pub over : (bs : List ℕ) (at size : ℕ) → size ≡ condition_length (drop at bs) → size ≤ 0 → at + book_length 0 (drop at bs) ≡ book_length 0 bs → at ≡ book_length 0 bs
-over bs at size e z h =
-    let n : condition_length (drop at bs) ≡ 0 = omega arith in
-    let f : book_length 0 (drop at bs) ≡ 0 = none_there (drop at bs) n in
-    omega arith
+-- where no C1 stands at the front
+pub none_at_end : (bs : List ℕ) → length bs < 1 → condition_length bs ≡ 0
+none_at_end [] h = refl
+none_at_end (b ∷ bs) h = absurd (omega arith)
+
+pub other_there : (bs : List ℕ) → eqb (get_or bs 0 0) 0xC1 ≡ false → condition_length bs ≡ 0
+other_there bs e = cond-false (eqb (get_or bs 0 0) 0xC1) (min (length bs) (3 + (get_or bs 1 0 * 256 + get_or bs 2 0))) 0 e

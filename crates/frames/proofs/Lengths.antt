@@ -1,8 +1,8 @@
 -- The commands of a file are a part of it.
 use Rattle.std.proofs.Common.{◌≡◌, ℕ, ◌+◌, ◌≤◌, List, length, Some, None, Ok, Err, Option, refl, ap, arith, length-append, length-drop}
-use Rattle.std.specs.Option.{ok_or}
+use Rattle.std.specs.Option.{ok_or, option_and_then as then}
 use Rattle.faults.specs.declared.Fault.{Fault}
-use Rattle.commands.specs.Steps.{then, alone}
+use Rattle.commands.specs.Steps.{alone}
 use Rattle.commands.specs.Law.{ill}
 use Rattle.commands.proofs.Walks.{cut_stands}
 use Rattle.frames.specs.Frames.{Parts, field_of, set_in, book_length, split, and_then, laid_out}
@@ -20,7 +20,7 @@ behind_set : (bs : List ℕ) (o : Option (List ℕ × List ℕ)) (k : ℕ × Lis
 behind_set bs None k e q = let z : ◌≡◌ {A = ℕ} 0 1 = cc q in absurd (omega (arith, z))
 behind_set bs (Some (v, rest)) k e q = go (alone v) q
   where
-    go : (a : Option ℕ) → then {Y = ℕ × List ℕ} (λ (n : ℕ). Some (n, rest)) a ≡ Some k → length k.1 ≤ length bs
+    go : (a : Option ℕ) → then {U = ℕ × List ℕ} (λ (n : ℕ). Some (n, rest)) a ≡ Some k → length k.1 ≤ length bs
     go None q = let z : ◌≡◌ {A = ℕ} 0 1 = cc q in absurd (omega (arith, z))
     go (Some n) q =
         let same : ◌≡◌ {A = ℕ × List ℕ} (n, rest) k = cc in

@@ -1,14 +1,13 @@
 -- The commands are taken one by one.
 use Rattle.std.proofs.Common.{◌≡◌, ℕ, suc, ◌+◌, ◌<◌, Bool, true, false, cond, eqb, List, [], ◌∷◌, ◌++◌, length, Some, None, Ok, Err, Option, sym, refl, ap, ◌∙◌, add-zero, arith, length-append}
+use Rattle.std.proofs.lemmas.Option.{none-some}
+use Rattle.std.specs.Option.{option_and_then as then}
 use Rattle.std.proofs.lemmas.Bool.{eqb-true}
 use Rattle.command_words.specs.Fields.{Field}
-use Rattle.commands.specs.Steps.{then, cut}
+use Rattle.commands.specs.Steps.{cut}
 use Rattle.commands.specs.Law.{ill}
 use Rattle.commands.proofs.Walks.{cut_stands}
 use Rattle.frames.specs.Frames.{tagged, field_of, next_command, records}
-
-none_some : {A : Type 0} {x : A} → None ≡ Some x → ⊥
-none_some e = let z : ◌≡◌ {A = ℕ} 0 1 = cc e in omega (arith, z)
 
 records_skip : (v rest : List ℕ) (o : ℕ) → records (length v) o (v ++ rest) ≡ records 0 (o + length v) rest
 unfolding records
@@ -26,10 +25,10 @@ found t bs v rest q = at (cut bs) refl q
         let tag : f.0.0 ≡ t = eqb-true f.0.0 t e in
         let same : ◌≡◌ {A = List ℕ × List ℕ} (f.0.1, f.1) (v, rest) = cc in
         c ∙ (λ i. Some ((tag i, (same i).0), (same i).1))
-    by false f e c q = absurd (none_some q)
+    by false f e c q = absurd (none-some _ q)
 
     at : (o : Option (Field × List ℕ)) → cut bs ≡ o → then (tagged t) o ≡ Some (v, rest) → cut bs ≡ Some ((t, v), rest)
-    at None c q = absurd (none_some q)
+    at None c q = absurd (none-some _ q)
     at (Some f) c q = by (eqb f.0.0 t) f refl c q
 
 records_on : (o tag hi lo : ℕ) (v rest : List ℕ) → next_command (tag ∷ hi ∷ lo ∷ (v ++ rest)) ≡ Some (v, rest)

@@ -1,19 +1,20 @@
 -- The law of the frame has one answer only.
 use Rattle.std.proofs.Common.{◌≡◌, ℕ, ◌+◌, ◌*◌, min, eqb, List, [], ◌∷◌, ◌++◌, length, get_or, take, drop, Some, None, Ok, Err, Option, Result, sym, refl, ap, ◌∙◌, subst, inl, inr, append_assoc, append-nil, add-zero, add_assoc, zero-add, arith, length-append, take_at, drop_at}
-use Rattle.std.specs.Option.{ok_or}
+use Rattle.std.specs.Option.{ok_or, option_and_then as then}
 use Rattle.std.proofs.lemmas.Bool.{cond-false, ne_eqb}
 use Rattle.faults.specs.declared.Fault.{Fault}
 use Rattle.command_words.specs.Fields.{Field, spell, spells}
-use Rattle.commands.specs.Steps.{then, cut}
+use Rattle.commands.specs.Steps.{cut}
 use Rattle.commands.specs.Law.{CutShort, ill}
 use Rattle.commands.proofs.Walks.{cut_stands}
 use Rattle.commands.proofs.Spelling.{Bytes}
+use Rattle.commands.proofs.Making.{all_parts}
 use Rattle.commands.proofs.Laws.{spelled}
 use Rattle.frames.specs.Frames.{Parts, field_of, set_in, book_length, split, and_then, laid_out}
 use Rattle.frames.specs.Law.{Conditions, Book, Framed}
 use Rattle.frames.specs.Law.Book.{ended, cut_off}
 use Rattle.frames.proofs.Books.{none_there}
-use Rattle.frames.proofs.Framing.{spell_found, found_spell, bytes_behind, none_left, whole_long, cut_long, set_spell}
+use Rattle.frames.proofs.Framing.{spell_found, found_spell, none_left, whole_long, cut_long, set_spell}
 
 -- ---- how long a book is
 
@@ -47,7 +48,7 @@ book_long book behind b (ended fs c is n) =
     ap (λ l. book_length 0 (l ++ behind)) is ∙ fields_long fs behind c ∙ ap (λ k. length (spells fs) + k) (none_behind behind n) ∙ add-zero (length (spells fs)) ∙ sym (ap length is)
 book_long book behind b (cut_off fs last c is short none) =
     let xs = 0xC1 ∷ last in
-    let small : Bytes xs = bytes_behind (spells fs) xs (subst Bytes is (bytes_of book behind b)) in
+    let small : Bytes xs = (all_parts (spells fs) xs (subst Bytes is (bytes_of book behind b))).1 in
     ap (λ l. book_length 0 (book ++ l)) none ∙ ap (book_length 0) (append-nil book ∙ is) ∙ fields_long fs xs c
     ∙ ap (λ k. length (spells fs) + k) (cut_long last (no_cut xs small short)) ∙ sym (length-append (spells fs) xs) ∙ sym (ap length is)
 
@@ -70,7 +71,7 @@ first o = and_then (λ (o : List ℕ × List ℕ). and_then (λ (k : ℕ × List
 pub framed_only : (file : List ℕ) → Bytes file → (q : Result Parts Fault) → Framed file q → q ≡ laid_out file
 framed_only file b (Ok p) f =
     let tail = spell (0xF1, p.kept ∷ []) ++ (p.book ++ p.commands) in
-    let c : Bytes (p.book ++ p.commands) = bytes_behind (spell (0xF1, p.kept ∷ [])) (p.book ++ p.commands) (bytes_behind (spell (0xF0, p.owners)) tail (subst Bytes f.0 b)) in
+    let c : Bytes (p.book ++ p.commands) = (all_parts (spell (0xF1, p.kept ∷ [])) (p.book ++ p.commands) (all_parts (spell (0xF0, p.owners)) tail (subst Bytes f.0 b)).1).1 in
     let set = ap (then set_in) (spell_found 0xF1 (p.kept ∷ []) (p.book ++ p.commands)) in
     sym (ap laid_out f.0 ∙ ap first (spell_found 0xF0 p.owners tail) ∙ ap (second p.owners) set ∙ ap (λ (x : Parts). Ok x) (split_only p c f.1))
 framed_only file b (Err e) (inl f) = ap (λ (x : Fault). Err x) f.0 ∙ ap first (sym (none (field_of 0xF0 file) refl))
@@ -81,7 +82,7 @@ framed_only file b (Err e) (inl f) = ap (λ (x : Fault). Err x) f.0 ∙ ap first
 framed_only file b (Err e) (inr f) =
     let v = f.0 in
     let rest = f.1 in
-    let c : Bytes f.1 = bytes_behind (spell (0xF0, f.0)) f.1 (subst Bytes f.2 b) in
+    let c : Bytes f.1 = (all_parts (spell (0xF0, f.0)) f.1 (subst Bytes f.2 b)).1 in
     let n : length (spell (0xF0, f.0)) ≡ 3 + length f.0 = omega arith in
     ap (λ (x : Fault). Err x) (f.3 ∙ ap ill n)
     ∙ sym (ap laid_out f.2 ∙ ap first (spell_found 0xF0 v rest) ∙ ap (second v) (none c (then set_in (field_of 0xF1 rest)) refl))

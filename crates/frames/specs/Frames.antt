@@ -1,9 +1,9 @@
 -- The frame of a session file: the owners (field F0), the kept set (F1), the book (C1 fields), the commands (F3 fields).
 use Rattle.std.specs.Prelude.{ℕ, zero, suc, ◌+◌, ◌*◌, min, cond, List, [], ◌∷◌, length, take, drop, Some, None, Ok, Err, Option, Result, ◌==◌, slice_index}
-use Rattle.std.specs.Option.{ok_or}
+use Rattle.std.specs.Option.{ok_or, option_and_then as then}
 use Rattle.faults.specs.declared.Fault.{Fault}
 use Rattle.command_words.specs.Fields.{Field}
-use Rattle.commands.specs.Steps.{then, cut, alone}
+use Rattle.commands.specs.Steps.{cut, alone}
 use Rattle.commands.specs.Law.{ill}
 
 -- the parts of a file

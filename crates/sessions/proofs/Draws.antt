@@ -4,11 +4,11 @@ use Rattle.faults.specs.declared.Fault.{Fault}
 use Rattle.states.specs.declared.state.State.{State}
 use Rattle.states.specs.declared.report.Report.{Report}
 use Rattle.states.specs.States.{kept}
-use Rattle.grants.specs.declared.Mode.{Mode}
+use Rattle.grants.specs.declared.terms.Terms.{Terms}
 use Rattle.conditions.specs.declared.truth.Truth.{Truth}
 use Rattle.loans.specs.declared.state.HookState.TheVariants as key
-use Rattle.controller.specs.declared.slip.Slip as slips
-use Rattle.controller.specs.declared.slip.RefusedSlip.{RefusedSlip}
+use Rattle.loans.specs.declared.slip.Slip as slips
+use Rattle.loans.specs.declared.slip.RefusedSlip.{RefusedSlip}
 use Rattle.command_words.specs.declared.Outcome.{Outcome}
 use Rattle.command_words.specs.declared.Command.{Command}
 use Rattle.command_words.specs.declared.Command.TheVariants as commands
@@ -115,13 +115,13 @@ module _ {L : Type 0} (size : L → ℕ) (says : L → ℕ → State → Truth) 
   as_told : (c : Command) → k ≡ c → Performs size says before c answer after → Performs size says before k answer after
   as_told c e p = subst (λ (x : Command). Performs size says before x answer after) (sym e) p
 
-  pub issued : (caller h grantee x y : ℕ) (mode : Mode) (r : Report) → k ≡ commands.Issue caller h grantee x y mode r
-      → answer ≡ told (reply size says before (Issue caller h grantee x y mode r)) → Follows size says before (Issue caller h grantee x y mode r) after → Performs size says before k answer after
-  issued caller h grantee x y mode r is e f = as_told (commands.Issue caller h grantee x y mode r) is (record { language = f.language; held = f.held; told_so = e })
+  pub issued : (caller h grantee : ℕ) (terms : Terms) → k ≡ commands.Issue caller h grantee terms
+      → answer ≡ told (reply size says before (Issue caller h grantee terms)) → Follows size says before (Issue caller h grantee terms) after → Performs size says before k answer after
+  issued caller h grantee terms is e f = as_told (commands.Issue caller h grantee terms) is (record { language = f.language; held = f.held; told_so = e })
 
-  pub amended : (caller n x y : ℕ) (mode : Mode) (r : Report) → k ≡ commands.Amend caller x y mode r n
-      → answer ≡ told (reply size says before (Amend caller n x y mode r)) → Follows size says before (Amend caller n x y mode r) after → Performs size says before k answer after
-  amended caller n x y mode r is e f = as_told (commands.Amend caller x y mode r n) is (record { language = f.language; held = f.held; told_so = e })
+  pub amended : (caller n : ℕ) (terms : Terms) → k ≡ commands.Amend caller n terms
+      → answer ≡ told (reply size says before (Amend caller n terms)) → Follows size says before (Amend caller n terms) after → Performs size says before k answer after
+  amended caller n terms is e f = as_told (commands.Amend caller n terms) is (record { language = f.language; held = f.held; told_so = e })
 
   pub withdrawn : (caller n : ℕ) → k ≡ commands.Withdraw caller n
       → answer ≡ told (reply size says before (Withdraw caller n)) → Follows size says before (Withdraw caller n) after → Performs size says before k answer after

@@ -54,8 +54,8 @@ module _ (size : ℕ) (means : ℕ → State → Truth) where
   -- what one command leaves
   pub shows_performed : (c w : World) (k : Command) → Shows c w
       → Shows (performed size means kept whole c k).0 (performed size means whole kept w k).0 × ((performed size means kept whole c k).1 ≡ (performed size means whole kept w k).1)
-  shows_performed c w (commands.Issue caller hook grantee execute onward mode report) s = shows_step c w (Issue caller hook grantee execute onward mode report) s
-  shows_performed c w (commands.Amend caller execute onward mode report number) s = shows_step c w (Amend caller number execute onward mode report) s
+  shows_performed c w (commands.Issue caller hook grantee terms) s = shows_step c w (Issue caller hook grantee terms) s
+  shows_performed c w (commands.Amend caller number terms) s = shows_step c w (Amend caller number terms) s
   shows_performed c w (commands.Withdraw caller number) s = shows_step c w (Withdraw caller number) s
   shows_performed c w (commands.Draw caller hook report outcome) s =
       let d = shows_step c w (Draw caller hook report) s in (

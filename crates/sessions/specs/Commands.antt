@@ -10,8 +10,8 @@ use Rattle.plain.specs.Record.{World, Call, Issue, Amend, Withdraw, Draw, Take, 
 
 -- the call that a command makes
 abbrev pub call_of : Command → Call
-call_of (commands.Issue caller hook grantee execute onward mode report) = Issue caller hook grantee execute onward mode report
-call_of (commands.Amend caller execute onward mode report number) = Amend caller number execute onward mode report
+call_of (commands.Issue caller hook grantee terms) = Issue caller hook grantee terms
+call_of (commands.Amend caller number terms) = Amend caller number terms
 call_of (commands.Withdraw caller number) = Withdraw caller number
 call_of (commands.Draw caller hook report outcome) = Draw caller hook report
 call_of (commands.Return caller hook) = Return caller hook
@@ -32,8 +32,8 @@ module _ (size : ℕ) (means : ℕ → State → Truth) (put see : ℕ → State
 
   -- what a command leaves, by what its call left and answered
   abbrev pub left : Command → World × Answer → World
-  left (commands.Issue caller hook grantee execute onward mode report) a = a.0
-  left (commands.Amend caller execute onward mode report number) a = a.0
+  left (commands.Issue caller hook grantee terms) a = a.0
+  left (commands.Amend caller number terms) a = a.0
   left (commands.Withdraw caller number) a = a.0
   left (commands.Draw caller hook report outcome) a = followed outcome a.0 a.1
   left (commands.Return caller hook) a = a.0

@@ -10,10 +10,8 @@ ghost use Rattle.sessions.specs.Performing.{Performs};
 use command_words::{Command, Outcome};
 use conditions::language::Language;
 use controller::cabinet::Cabinet;
-use controller::slip::Slip;
 use faults::Fault;
-use grants::Mode;
-use grants::terms::Terms;
+use loans::slip::Slip;
 use states::report::Report;
 
 /// Spends the slip of a key that is promised so: the key is taken, or left.
@@ -58,17 +56,6 @@ fn give_back<L: Language>(cabinet: &mut Cabinet<L>, caller: u8, hook: u8) -> Res
     Ok(0)
 }
 
-fn terms_of(execute: u16, onward: u16, mode: Mode, report: Report) -> Terms
-    ensures { result ≡ record { execute = execute; onward = onward; mode = mode; report = report } }
-{
-    Terms {
-        execute,
-        onward,
-        mode,
-        report,
-    }
-}
-
 /// Puts a command to the cabinet; answers its number, or the refusal.
 pub(crate) fn perform<L: Language>(cabinet: &mut Cabinet<L>, command: Command) -> Result<u32, Fault>
     ensures { Performs L.size L.says cabinet.old command result cabinet.new }
@@ -78,22 +65,13 @@ pub(crate) fn perform<L: Language>(cabinet: &mut Cabinet<L>, command: Command) -
             caller,
             hook,
             grantee,
-            execute,
-            onward,
-            mode,
-            report,
-        } => {
-            let terms = terms_of(execute, onward, mode, report);
-            cabinet.issue(caller, hook, grantee, &terms)
-        }
+            terms,
+        } => cabinet.issue(caller, hook, grantee, &terms),
         Command::Amend {
             caller,
-            execute,
-            onward,
-            mode,
-            report,
             number,
-        } => cabinet.amend(caller, number, &terms_of(execute, onward, mode, report)),
+            terms,
+        } => cabinet.amend(caller, number, &terms),
         Command::Withdraw { caller, number } => cabinet.withdraw(caller, number),
         Command::Draw {
             caller,

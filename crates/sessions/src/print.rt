@@ -6,7 +6,8 @@ ghost use Rattle.frames.specs.Views.{parts_of};
 ghost use Rattle.sessions.specs.Sessions.{session, printed};
 ghost use Rattle.sessions.specs.Performing.{Fitted, runs};
 
-use crate::session::{answer_all, unread_line};
+use crate::lines::unread_line;
+use crate::session::answer_all;
 use books::book::Book;
 use books::field::check;
 use conditions::language::Language;
@@ -23,11 +24,7 @@ const MOST: usize = 65535;
 fn front<'a>(file: &'a [u8]) -> &'a [u8]
     ensures { result.now ≡ take 65535 file.now }
 {
-    if file.len() > MOST {
-        &file[0..MOST]
-    } else {
-        file
-    }
+    &file[..file.len().min(MOST)]
 }
 
 /// Fits a new cabinet, and then checks the book that it goes by.

@@ -1,9 +1,8 @@
 //! A session: the commands of a file, one after another.
 ghost use Rattle.std.specs.Prelude.{◌≡◌, ◌-◌, ◌≤◌, length, IfOk, string_bytes};
-ghost use Rattle.sessions.specs.Lines.{unread};
 ghost use Rattle.sessions.specs.Performing.{Answers, writes, continues};
 
-use crate::lines::{letter, line_of};
+use crate::lines::{line_of, unread_line};
 use crate::perform::perform;
 use commands::reader::read;
 use conditions::language::Language;
@@ -11,13 +10,6 @@ use controller::cabinet::Cabinet;
 use faults::{Fault, Refusal};
 use frames::layout::next_command;
 use std::alloc::{AllocError, Global};
-
-/// The line of something that is no command.
-pub(crate) fn unread_line(heap: Global, count: usize, fault: Fault) -> Result<String, AllocError>
-    ensures { IfOk result (λ s. string_bytes s ≡ unread count fault) }
-{
-    line_of(heap, count, "?", Err(fault))
-}
 
 /// Puts a command's record to the cabinet; answers its line.
 fn answer<L: Language>(
@@ -30,10 +22,7 @@ fn answer<L: Language>(
     ensures written { IfOk result (λ s. string_bytes s ≡ writes L.size L.says cabinet.old count bytes.now) }
 {
     match read(bytes) {
-        Ok(command) => {
-            let answer = perform(cabinet, command);
-            line_of(heap, count, letter(command), answer)
-        }
+        Ok(command) => line_of(heap, count, command.verb(), perform(cabinet, command)),
         Err(fault) => unread_line(heap, count, fault),
     }
 }
@@ -51,16 +40,18 @@ pub(crate) fn answer_all<L: Language>(
     let mut text = String::new(heap);
     let mut rest = commands;
     let mut count = 1;
+    // stays: a line needs its count, and a refusal what is left of the file; an iterator would carry
+    // both along, and where it fails the loop ends all the same.
     while !rest.is_empty() {
-        let Some(piece) = next_command(rest) else {
+        let Some(record) = next_command(rest) else {
             let fault = Refusal::CommandIllFormed.at(end - rest.len());
             let line = unread_line(heap, count, fault)?;
             text.push_str(line.as_str())?;
             return Ok(text);
         };
-        let line = answer(heap, cabinet, count, piece.value)?;
+        let line = answer(heap, cabinet, count, record.value)?;
         text.push_str(line.as_str())?;
-        rest = piece.rest;
+        rest = record.rest;
         count += 1;
     }
     Ok(text)

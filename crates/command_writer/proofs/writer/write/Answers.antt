@@ -1,16 +1,22 @@
-use Rattle.std.proofs.Common.{◌≡◌, ◌≤◌, length, take, sym, ap, ◌∙◌, arith}
+use Rattle.std.proofs.Common.{◌≡◌, List, ℕ, [], length, take, refl, ap, ◌∙◌, take_all}
 use Rattle.std.proofs.lemmas.List.{take_at}
 use Rattle.command_words.specs.Format.{fields_of, wire}
-use Rattle.command_writer.specs.declared.pens.Pen.{Pen}
-use Rattle.command_writer.specs.Pens.{clean}
-use Rattle.command_writer.proofs.Puts.{penned_spells, puts_clean, wire_short, filled_long}
+use Rattle.command_writer.specs.Pens.{filled}
+use Rattle.command_writer.proofs.Puts.{penned_spells, wire_short}
 use Rattle.command_writer.proofs.writer.write.Goals as goal
 
-pub returns : goal.returns
-returns c =
-    let w = wire c.args.command in
-    let l : length (wire c.args.command) ≤ 64 = wire_short c.args.command in
-    let e = c.pen_down-pen.ensures ∙ penned_spells clean (fields_of c.args.command) ∙ puts_clean w l in
-    let a : c.pen_down-pen.result.at ≡ length (wire c.args.command) = ap (λ (p : Pen). p.at) e in
-    let b = ap (λ (p : Pen). p.bytes) e in
-    record { long = a; within = omega arith; bytes = b; front = ap (take c.pen_down-pen.result.at) b ∙ take_at w _ c.pen_down-pen.result.at (sym a); size = ap length b ∙ filled_long w l }
+-- what the pen has written is the whole record
+whole : (c : goal.After-fill) → c.written-written.result.now ≡ wire c.args.command
+whole c =
+    c.written-written.ensures.is ∙ c.pen_down-pen.ensures ∙ penned_spells [] (fields_of c.args.command)
+    ∙ take_all 64 (wire c.args.command) (wire_short c.args.command)
+
+pub returns-clause-long : goal.returns-clause-long
+returns-clause-long c = ap (λ (w : List ℕ). length w) (whole c)
+
+pub returns-clause-bytes : goal.returns-clause-bytes
+returns-clause-bytes c = c.fill.ensures ∙ ap filled (whole c)
+
+pub returns-clause-front : goal.returns-clause-front
+returns-clause-front c =
+    ap (take (length c.written-written.result.now)) c.fill.ensures ∙ take_at c.written-written.result.now _ _ refl ∙ whole c

@@ -1,12 +1,11 @@
-use Rattle.std.proofs.Common.{◌≡◌, ◌+◌, ◌-◌, ◌≤◌, length, drop}
-use Rattle.frames.specs.Frames.{condition_length, book_length}
+use Rattle.std.proofs.Common.{◌≡◌, ◌+◌, ◌-◌, ◌≤◌, length}
+use Rattle.frames.specs.Frames.{book_length}
 use Rattle.frames.proofs.layout.book_len.Given as goal
 
-abbrev pub invariant-loop-size : goal.invariant-loop-size
-invariant-loop-size l =
-    (l.size ≡ condition_length (drop l.at l.bytes))
-    × (l.at + book_length 0 (drop l.at l.bytes) ≡ book_length 0 l.bytes)
-    × (l.at ≤ length l.bytes)
+abbrev pub invariant-loop-rest : goal.invariant-loop-rest
+invariant-loop-rest l =
+    ((length l.bytes - length l.rest) + book_length 0 l.rest ≡ book_length 0 l.bytes)
+    × (length l.rest ≤ length l.bytes)
 
-abbrev pub decreases-loop-size : goal.decreases-loop-size
-decreases-loop-size l = length l.bytes - l.at
+abbrev pub decreases-loop-rest : goal.decreases-loop-rest
+decreases-loop-rest l = length l.rest

@@ -1,8 +1,13 @@
-use Rattle.std.proofs.Common.{◌≤◌, length, sym, refl, arith, take_all}
+use Rattle.std.proofs.Common.{◌≡◌, ℕ, zero, suc, min, List, [], ◌∷◌, length, take, sym, ap, ◌∙◌}
+use native.Mathlib.Nat.{min-zero, suc-min-suc}
+use Rattle.std.proofs.Math.Seq.{take-nil}
 use Rattle.sessions.proofs.print.front.Goals as goal
 
-pub returns-else-file-gt-MOST : goal.returns-else-file-gt-MOST
-returns-else-file-gt-MOST c = let h : length c.args.file.now ≤ 65535 = omega arith in sym (take_all 65535 c.args.file.now h)
+-- no more is taken than there is
+take_min : (n : ℕ) (xs : List ℕ) → take (min (length xs) n) xs ≡ take n xs
+take_min n [] = take-nil (min 0 n) ∙ sym (take-nil n)
+take_min zero (x ∷ xs) = ap (λ m. take m (x ∷ xs)) (min-zero (suc (length xs)))
+take_min (suc n) (x ∷ xs) = ap (λ m. take m (x ∷ xs)) (suc-min-suc (length xs) n) ∙ ap (λ (l : List ℕ). x ∷ l) (take_min n xs)
 
-pub returns-then-file-gt-MOST : goal.returns-then-file-gt-MOST
-returns-then-file-gt-MOST c = refl
+pub returns : goal.returns
+returns c = ap (λ n. take n c.args.file.now) c.min.ensures ∙ take_min 65535 c.args.file.now

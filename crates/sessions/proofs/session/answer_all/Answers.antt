@@ -12,14 +12,14 @@ returns-in_default g c =
 
 pub loop-rest-smaller : goal.loop-rest-smaller
 loop-rest-smaller g c =
-    let t = took c.loop-rest.rest.now c.in-Some.piece.value.now c.in-Some.piece.rest.now (sym c.in-Some.ensures) in
+    let t = took c.loop-rest.rest.now c.in-Some.record.value.now c.in-Some.record.rest.now (sym c.in-Some.ensures) in
     let m = t.shorter in
     omega (arith, m)
 
 pub loop-rest-preserved : goal.loop-rest-preserved
 loop-rest-preserved g c =
     more_text g.L.Language.size g.L.Language.says c.args.cabinet.now c.args.end c.args.commands.now c.loop-rest.cabinet c.loop-rest.count c.loop-rest.rest.now (string_bytes c.loop-rest.text) c.loop-rest.invariant
-    c.in-Some.piece.value.now c.in-Some.piece.rest.now (string_bytes c.push_str-in-loop-rest.new.self) c.as_str-in-loop-rest.result.now (string_bytes c.in_ok-line-2.line) c.answer.new.cabinet
+    c.in-Some.record.value.now c.in-Some.record.rest.now (string_bytes c.push_str-in-loop-rest.new.self) c.as_str-in-loop-rest.result.now (string_bytes c.in_ok-line-2.line) c.answer.new.cabinet
     c.in_ok-push_str-2.ensures.bytes c.as_str-in-loop-rest.ensures.value c.in_ok-line-2.ensures.written c.in-Some.ensures c.in_ok-line-2.ensures.left
 
 pub returns : goal.returns
