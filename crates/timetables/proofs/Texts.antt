@@ -1,5 +1,5 @@
 -- How a line and a table grow.
-use Rattle.std.proofs.Common.{◌≡◌, ℕ, ◌+◌, List, ◌++◌, Some, sym, ap, ◌∙◌, append_assoc, append-nil, add-one}
+use Rattle.std.proofs.Common.{◌≡◌, ℕ, suc, ◌+◌, ◌-◌, ◌≤◌, List, ◌++◌, arith, Some, sym, ap, ◌∙◌, append_assoc, append-nil, add-one}
 use Rattle.states.specs.declared.state.State.{State}
 use Rattle.conditions.specs.declared.truth.Truth.{Truth}
 use Rattle.timetables.specs.Timetables.{before, piece_of, course, line, lines}
@@ -23,12 +23,9 @@ unfolding lines
 lines_none says t = sym (append-nil t)
 
 -- one line more
-pub lines_more : (says : ℕ → State → Truth) (start now next : List ℕ) (k : ℕ) → now ≡ start ++ lines says k → next ≡ now ++ line says (k + 2) → next ≡ start ++ lines says (k + 1)
+pub lines_more : (says : ℕ → State → Truth) (start now next : List ℕ) (n : ℕ) → 2 ≤ n → now ≡ start ++ lines says (n - 2) → next ≡ now ++ line says n → next ≡ start ++ lines says (n + 1 - 2)
 unfolding lines
-lines_more says start now next k e p =
-    p ∙ ap (λ t. t ++ line says (k + 2)) e ∙ append_assoc start (lines says k) (line says (k + 2)) ∙ sym (ap (λ j. start ++ lines says j) (add-one k))
-
--- three parts written one behind another
-pub glued : (t h h' c x one two three : List ℕ) → one ≡ t ++ h → h ≡ h' → two ≡ one ++ c → three ≡ two ++ x → three ≡ t ++ (h' ++ (c ++ x))
-glued t h h' c x one two three e1 e eh e3 =
-    e3 ∙ ap (λ l. l ++ x) (eh ∙ ap (λ l. l ++ c) (e1 ∙ ap (λ l. t ++ l) e)) ∙ append_assoc (t ++ h') c x ∙ append_assoc t h' (c ++ x)
+lines_more says start now next n low e p =
+    let same : n ≡ n - 2 + 2 = omega arith in
+    let more : suc (n - 2) ≡ n + 1 - 2 = omega arith in
+    p ∙ (λ i. e i ++ line says (same i)) ∙ append_assoc start (lines says (n - 2)) (line says (n - 2 + 2)) ∙ ap (λ j. start ++ lines says j) more

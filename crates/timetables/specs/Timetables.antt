@@ -1,19 +1,15 @@
 -- The timetable of a book, as text: a line for each condition, with each minute of a day at which a truth begins.
 use Rattle.std.specs.Prelude.{ℕ, zero, suc, ◌+◌, ◌-◌, Bool, true, false, cond, List, [], ◌++◌, Some, None, Ok, Err, codes, decimal, Option, Result}
 use Rattle.faults.specs.declared.Fault.{Fault}
-use Rattle.faults.specs.Faults.{number_of}
+use Rattle.faults.specs.Faults.{printed as fault_printed}
 use Rattle.states.specs.declared.state.State.{State}
 use Rattle.states.specs.Reports.{state_of}
 use Rattle.conditions.specs.declared.truth.Truth.{Truth}
 use Rattle.conditions.specs.declared.truth.Truth.TheVariants.{True, False, Unknown}
+use Rattle.conditions.specs.Truths.{word_of}
 use Rattle.books.specs.Books.{checked, book_says}
 
--- the words of the three truths
-abbrev pub word_of : Truth → List ℕ
-word_of True = codes "true"
-word_of False = codes "false"
-word_of Unknown = codes "unknown"
-
+-- two truths are the same
 abbrev pub same : Truth → Truth → Bool
 same True True = true
 same True False = false
@@ -63,7 +59,7 @@ table_of size says = (codes "conditions " ++ (decimal (size - 2) ++ codes "\n"))
 
 -- a refusal, with its number and its place
 abbrev pub refused : Fault → List ℕ
-refused f = codes "no " ++ (decimal (number_of f.refusal) ++ (codes " " ++ (decimal f.place ++ codes "\n")))
+refused f = fault_printed f ++ codes "\n"
 
 -- what is printed of a book, by the answer of its check
 abbrev pub after_check : List ℕ → Result ℕ Fault → List ℕ

@@ -1,6 +1,6 @@
-use Rattle.std.proofs.Common.{◌≡◌, ℕ, string_bytes, refl, ap, ◌∙◌}
+use Rattle.std.proofs.Common.{◌≡◌, ℕ, ◌++◌, string_bytes, refl, ap, ◌∙◌}
 use Rattle.conditions.specs.declared.truth.Truth.{Truth}
-use Rattle.timetables.specs.Timetables.{before, piece_of, truths}
+use Rattle.timetables.specs.Timetables.{piece_of, truths}
 use Rattle.timetables.proofs.Texts.{course_none, course_more, before_more}
 use Rattle.timetables.proofs.add_course.Goals as goal
 
@@ -14,7 +14,5 @@ loop-minute-preserved g c =
     let m = c.loop-minute.minute in
     let f : ℕ → Truth = truths says n in
     let said : c.truth-truth.result ≡ f m = c.truth-truth.ensures ∙ ap (says n) c.at_minute.ensures in
-    let more : string_bytes c.in_ok-more.more ≡ piece_of (before f m) m (f m) = c.in_ok-more.ensures ∙ (λ i. piece_of (c.loop-minute.invariant.0 i) m (said i)) in (
-      before_more f m c.truth-truth.result said,
-      c.in_ok-push_str.ensures.bytes ∙ course_more f (string_bytes c.args.text.now) (string_bytes c.loop-minute.text) _ m c.loop-minute.invariant.1 (c.as_str.ensures.value ∙ more),
-    )
+    let more = c.in_ok-add_piece.ensures ∙ (λ i. string_bytes c.loop-minute.text ++ piece_of (c.loop-minute.invariant.0 i) m (said i)) in
+    (before_more f m c.truth-truth.result said, more ∙ course_more f (string_bytes c.args.text.now) (string_bytes c.loop-minute.text) _ m c.loop-minute.invariant.1 refl)
