@@ -1,6 +1,7 @@
 -- Orphans, place by place and row by row.
-use Rattle.std.proofs.Common.{◌≡◌, ℕ, suc, ◌+◌, ◌-◌, ◌<◌, ◌≤◌, Bool, true, false, cond, ltb, List, [], ◌∷◌, length, get_or, IfSome, Some, None, Option, unwrap_or, sym, refl, ap, ◌∙◌, subst, ⊎_elim, suc-le-suc, add-one, arith}
-use Rattle.std.specs.List.{remove}
+use Rattle.std.proofs.Common.{◌≡◌, ℕ, suc, ◌+◌, ◌<◌, ◌≤◌, Bool, true, false, cond, ltb, List, [], ◌∷◌, length, get_or, IfSome, Some, None, Option, unwrap_or, sym, refl, ap, ◌∙◌, subst, ⊎_elim, suc-le-suc, add-one, arith}
+use Rattle.std.specs.List.{remove, range_with_len}
+use Rattle.std.proofs.lemmas.List.Sums.{sum_by-cons}
 use Rattle.std.proofs.lemmas.List.Edits.{length-remove, get_or-remove_below, get_or-remove_above}
 use Rattle.std.proofs.lemmas.Bool.{cond-true, cond-false, cases_lt, lt-ltb, le-ltb}
 use Rattle.numbered.specs.Rows.{place_of, without}
@@ -11,22 +12,16 @@ use Rattle.register.specs.Held.{numbers}
 use Rattle.plain.specs.Record.{count}
 use Rattle.ledger.specs.Sweeps.{place_before, orphans_from}
 
--- one place more
-pub orphans_more : (t : ℕ → Bool) (i n : ℕ) → i < n
-    → (t i ≡ true → orphans_from t i (n - i) ≡ orphans_from t (i + 1) (n - (i + 1)) + 1) × (t i ≡ false → orphans_from t i (n - i) ≡ orphans_from t (i + 1) (n - (i + 1)))
-orphans_more t i n lt =
-    let left : n - i ≡ suc (n - (i + 1)) = omega arith in
-    let next : orphans_from t (suc i) (n - (i + 1)) ≡ orphans_from t (i + 1) (n - (i + 1)) = ap (λ k. orphans_from t k (n - (i + 1))) (sym (add-one i)) in (
-      λ e. ap (orphans_from t i) left ∙ cond-true (t i) _ _ e ∙ ap suc next ∙ sym (add-one _),
-      λ e. ap (orphans_from t i) left ∙ cond-false (t i) _ _ e ∙ next,
-    )
+one_more : (b : Bool) (n m : ℕ) → n ≡ m → cond b 1 0 + n ≡ cond b (suc m) m
+one_more true n m e = omega (arith, e)
+one_more false n m e = omega (arith, e)
 
 -- the orphans among rows, by their places
 pub orphans_rows : (test : Grant → Bool) (t : ℕ → Bool) (i : ℕ) (gs : List Grant) → ((k j : ℕ) → j ≡ i + k → k < length gs → t j ≡ test (get_or gs k blank)) → orphans_from t i (length gs) ≡ count test gs
 orphans_rows test t i [] h = refl
 orphans_rows test t i (g ∷ gs) h =
-    let rest = orphans_rows test t (suc i) gs (λ k j e lt. h (suc k) j (omega arith) (suc-le-suc lt)) in
-    λ p. cond (h 0 i (omega arith) (omega arith) p) (suc (rest p)) (rest p)
+    sum_by-cons (λ j. cond (t j) 1 0) i (range_with_len (i + 1) (length gs)) ∙ ap (λ b. cond b 1 0 + orphans_from t (i + 1) (length gs)) (h 0 i (omega arith) (omega arith))
+    ∙ one_more (test g) _ (count test gs) (orphans_rows test t (i + 1) gs (λ k j e lt. h (suc k) j (omega (arith, e)) (suc-le-suc lt)))
 
 -- the place that a row had before another was taken out
 module _ (n : ℕ) (r : List Grant) (few : length r ≤ 96) where

@@ -1,5 +1,6 @@
 -- What the sweep goes by: sets of places, one bit for each.
-use Rattle.std.specs.Prelude.{◌≡◌, ℕ, zero, suc, ◌<◌, Bool, cond, not, ◌&&◌, ◌||◌, List, [], ◌∷◌, length, nat_lt}
+use Rattle.std.specs.Prelude.{◌≡◌, ℕ, suc, ◌<◌, Bool, cond, not, ◌&&◌, ◌||◌, List, [], ◌∷◌, length, nat_lt}
+use Rattle.std.specs.List.{count_by, range_with_len}
 use Rattle.states.specs.declared.state.State.{State}
 use Rattle.grants.specs.declared.Grant.{Grant}
 use Rattle.conditions.specs.declared.truth.Truth.{Truth}
@@ -34,8 +35,7 @@ is_orphan before gone after i = member before (place_before gone i) && not (memb
 
 -- how many of the n places from i on are orphans'
 abbrev pub orphans_from : (ℕ → Bool) → ℕ → ℕ → ℕ
-orphans_from t i zero = 0
-orphans_from t i (suc n) = let rest = orphans_from t (suc i) n in cond (t i) (suc rest) rest
+orphans_from t i n = count_by t (range_with_len i n)
 
 -- the cabinet after a sweep
 abbrev pub settled : ℕ → (ℕ → State → Truth) → World → World

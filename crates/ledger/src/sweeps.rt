@@ -26,8 +26,7 @@ pub(crate) fn staying(grants: &[Grant], standing: u128) -> u128
 /// The place that place `i` had before the row at `gone` was taken out.
 fn place_before(gone: usize, i: usize) -> usize
     requires { i < 96 }
-    ensures is { result ≡ place_before gone i }
-    ensures low { result < 128 }
+    ensures { result ≡ place_before gone i }
 {
     if i < gone { i } else { i + 1 }
 }
@@ -46,11 +45,7 @@ pub(crate) fn orphans(before: u128, gone: usize, after: u128, count: usize) -> u
     requires { count ≤ 96 }
     ensures { result ≡ orphans_from (is_orphan before gone after) 0 count }
 {
-    let mut found = 0u32;
-    for i in 0..count {
-        if is_orphan(before, gone, after, i) {
-            found += 1;
-        }
-    }
-    found
+    (0..count)
+        .filter(|i| is_orphan(before, gone, after, *i))
+        .count() as u32
 }

@@ -36,16 +36,19 @@ fn judge(hook: u8, state: HookState, event: Event) -> Result<HookState, Fault>
     }
 }
 
-impl Loan {
-    fn state(&self) -> HookState
-        ensures { result ≡ where_lent self.now.lent }
-    {
-        match self.lent {
+/// Where a lent key is.
+impl From<Lent> for HookState {
+    ghost from_gives = { λ l s. s ≡ where_lent l };
+
+    fn from(lent: Lent) -> HookState {
+        match lent {
             Lent::Promised(person) => HookState::Promised(person),
             Lent::Out => HookState::Out,
         }
     }
+}
 
+impl Loan {
     /// The key goes out.
     fn go_out(&mut self)
         ensures { self.new ≡ went_out self.old }
@@ -84,7 +87,7 @@ impl Loans {
         ensures listed { result ≡ slice_index_or (hooks self.now) hook In }
     {
         match self.place(hook) {
-            Some(i) => self.rows[i].state(),
+            Some(i) => HookState::from(self.rows[i].lent),
             None => HookState::In,
         }
     }
@@ -148,6 +151,7 @@ impl Loans {
         })
     }
 
+    // stays: taking and leaving are two calls, one line each over what they share
     /// Spends a slip: the key is out.
     pub fn take(&mut self, slip: Slip) -> Result<(), RefusedSlip>
         ensures is { result ≡ spent slip (judged slip.hook (state_of self.old slip.hook) (Take slip.person)) }

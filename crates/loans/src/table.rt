@@ -5,6 +5,7 @@ ghost use Rattle.numbered.specs.Rows.{Rises, AllBelow};
 use numbered::Numbered;
 
 /// Why a key is not simply in.
+// stays: an `Option` of the person would not say that a key without one is out
 #[derive(Clone, Copy)]
 pub(crate) enum Lent {
     /// It is promised to this person.
@@ -30,6 +31,7 @@ impl Numbered for Loan {
 
 /// The loans, at most one for each of the 32 hooks: the first `count` rows, in the order of the
 /// hooks. A hook without a loan is in.
+// stays: an array with a count, as in the register of grants
 #[derive(Drop)]
 pub struct Loans {
     pub(crate) rows: [Loan; 32],

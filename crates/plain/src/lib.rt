@@ -80,6 +80,7 @@ pub fn check_grantor(grant: Option<Grant>, caller: u8, number: u32) -> Result<()
     }
 }
 
+// stays: two checks with limits, reasons and laws of their own, one line each over what they share
 /// Refuses a new number after the last one.
 pub fn check_numbers(last: u32) -> Result<(), Fault>
     ensures { result ≡ passed (numbers_left last ∷ []) }

@@ -5,6 +5,8 @@ ghost use Rattle.numbered.specs.Rows.{Rises};
 use grants::Grant;
 
 /// The grants on record, at most 96: the first `count` rows. Their numbers rise strictly.
+// stays: the functions of `numbered` promise for any slice with any count, also one past its end, which a vector of
+// the kit has not
 #[derive(Drop)]
 pub struct Register {
     pub(crate) rows: [Grant; 96],

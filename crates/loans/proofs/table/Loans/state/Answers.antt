@@ -12,7 +12,7 @@ returns-in-Some c =
     let i = c.in-Some.i in
     let place = sym c.place.ensures.is ∙ c.in-Some.is in
     let is =
-    c.state.ensures
+    c.from.ensures
     ∙ ap (λ (l : Loan). where_lent l.lent) (sym (get_or-take ls.count ls.rows i _ c.in-Some.ensures.within))
     ∙ sym (ap state_by (found_loan c.args.hook i _ (loans_in ls) place)) in
     record { is = is; listed = is ∙ listed ls c.args.hook }
