@@ -1,7 +1,7 @@
 """How a slip may be handled, asked of the compiler itself.
 
 A slip is made by a draw and spent by take or leave, and in no other way. Each sample below is a small
-program over a crate that has slips, `loans` or `controller`. The first spends its slip, and builds. Each other
+program over a crate that hands slips out, `loans` or `controller`. The first spends its slip, and builds. Each other
 one must not build, for the one error that is named. Nothing is proved here: `rt try` compiles a sample, and
 runs it where it builds.
 """
@@ -13,7 +13,7 @@ import tempfile
 
 ROOT = pathlib.Path(__file__).resolve().parents[2]
 
-# by the crate that has the slip: every crate that the samples need, each behind those that it needs itself; what takes
+# by the crate that hands the slip out: every crate that the samples need, each behind those that it needs itself; what takes
 # a slip; and the samples' program
 KINDS = {
     "loans": (
@@ -32,19 +32,20 @@ fn main() {
     ),
     "controller": (
         [
-            "faults", "states", "numbered", "grants", "conditions", "sheets", "register", "loans", "chains", "paths", "search",
+            "faults", "states", "numbered", "grants", "conditions", "sheets", "places", "register", "loans", "chains", "paths",
+            "search",
             "plain", "call_checks", "ledger", "controller",
         ],
         "cabinet",
         """use controller::cabinet::Cabinet;
-use controller::slip::Slip;
+use loans::slip::Slip;
 use sheets::sheet::Sheet;
 use states::report::Report;
 
 fn main() {
     let mut cabinet = Cabinet::new(Sheet::new());
     let _ = cabinet.fit(&[1; 32], 0);
-    let report = Report { time: None, day: None, groups: None, path: None, level: None, status: None };
+    let report = Report::default();
     let mut chain = [0; 8];
     if let Ok(slip) = cabinet.draw(1, 0, &report, &mut chain) {
 %s
