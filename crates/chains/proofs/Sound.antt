@@ -1,8 +1,7 @@
 -- The listed chains are just the valid ones, in order; standing and the least chain are decided by them.
-use Rattle.std.proofs.Common.{◌≡◌, ℕ, zero, suc, ◌+◌, ◌-◌, ◌<◌, ◌≤◌, Bool, true, false, cond, not, ◌&&◌, eqb, leb, List, [], ◌∷◌, map, length, get_or, take, drop, Some, None, Decides, sym, refl, ap, ◌∙◌, subst, inl, inr, ⊎_elim, arith}
+use Rattle.std.proofs.Common.{◌≡◌, ℕ, zero, suc, ◌+◌, ◌<◌, ◌≤◌, Bool, true, false, cond, not, ◌&&◌, eqb, leb, List, [], ◌∷◌, map, length, Some, None, Decides, sym, refl, ap, ◌∙◌, subst, inl, inr, ⊎_elim, arith}
 use Rattle.std.specs.List.{AllByRecursion}
 use Rattle.std.proofs.lemmas.Bool.{true≢false, and_parts, and_from, le-leb, leb-true, eq-eqb, eqb-true}
-use Rattle.std.proofs.lemmas.List.{take_all}
 use Rattle.std.proofs.lemmas.Bool.Decides.{Decides-eqb, Decides-not, Decides-and}
 use Rattle.conditions.specs.declared.truth.Truth.{Truth}
 use Rattle.conditions.specs.declared.truth.Truth.TheVariants.{True, False, Unknown}
@@ -245,14 +244,3 @@ module _ (means : ℕ → State → Truth) where
     chosen_serves r h o p s c e =
         let f = find_some (λ (a b : List Grant). Unit {0}) (serves means st o p s) (chains means st r h o 8) c (sorted_any (chains means st r h o 8)) e in
         in_serves r h o p s c f.0 f.1
-
--- a chain as a slice pattern takes it apart
-module _ (means : ℕ → State → Truth) (st : Grant → State) (h o : ℕ) where
-  pub sound_none : (c : List Grant) → length c < 1 → is_sound means st h o c ≡ is_person o
-  sound_none [] e = refl
-  sound_none (g ∷ c) e = absurd (omega arith)
-
-  pub sound_some : (c : List Grant) (d : Grant) → 0 < length c
-      → is_sound means st h o c ≡ (follows means st h o (take (length c - 1) (drop 1 c)) (get_or c 0 d) && is_sound means st h o (take (length c - 1) (drop 1 c)))
-  sound_some [] d e = absurd (omega arith)
-  sound_some (g ∷ c) d e = let same : c ≡ take (suc (length c) - 1) c = sym (take_all (suc (length c) - 1) c (omega arith)) in ap (λ b. follows means st h o b g && is_sound means st h o b) same

@@ -1,4 +1,3 @@
-pub mod Tables
 pub mod Places
 mod Snoc
 pub mod Marked

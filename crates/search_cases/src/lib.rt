@@ -11,6 +11,7 @@ mod tests {
     use crate::plain::first_chain;
     use chains::chain::Draw;
     use grants::{Grant, Mode};
+    use places::{Places, first, has, join, meet, select, with_place, without};
     use search::named::Named;
     use search::search::{chain_for, standing, stands};
     use states::state::State;
@@ -136,6 +137,23 @@ mod tests {
         assert_eq!(rt; drawn(&[a, a], 2), None);
         assert_eq!(rt; standing(&Masks, &[a, a], &[1]), 0);
         assert_eq!(rt; drawn(&[a; 97], 1), None);
+    }
+
+    #[test]
+    fn the_places_of_a_set_come_by_rising_number(rt: HostRuntime) {
+        let set = select(&[7u8, 3, 7, 5, 7], |number| *number == 7);
+        assert_eq!(rt; set, 21);
+        assert!(rt; has(set, 2) && !has(set, 3) && !has(set, 200));
+        let mut places = Places { rest: set };
+        assert_eq!(rt; places.next(), Some(0));
+        assert_eq!(rt; places.next(), Some(2));
+        assert_eq!(rt; places.next(), Some(4));
+        assert_eq!(rt; places.next(), None);
+        assert_eq!(rt;
+            without(with_place(set, 127), join(meet(set, 3), 4)),
+            (1u128 << 127) + 16
+        );
+        assert_eq!(rt; first(with_place(0, 127)), Some(127));
     }
 
     fn step(x: u64) -> u64 {

@@ -1,19 +1,12 @@
-use Rattle.std.proofs.Common.{◌≡◌, ℕ, ◌+◌, ◌<◌, true, length, Decides, sym, subst, arith}
+use Rattle.std.proofs.Common.{◌≡◌, ℕ, ◌+◌, ◌<◌, true, Decides, sym, subst, arith}
 use Rattle.std.proofs.lemmas.Bool.{both_ways}
 use Rattle.places.specs.Sets.{member}
-use Rattle.places.proofs.Members.{member_zero}
 use Rattle.search.specs.Asked.{ReachedAt, DecidedTo}
-use Rattle.search.proofs.Marked.{decided_none, decided_in, decided_out, rests_more}
+use Rattle.search.proofs.Marked.{decided_in, decided_out, rests_more}
 use Rattle.search.proofs.Found.{reached_at}
 use Rattle.search.proofs.Prefix.{usable_enough}
 use Rattle.search.proofs.record.Record.reached_places.Goals as goal
 use Rattle.search.proofs.record.Record.reached_places.Goals.{then-is_reached, else-is_reached}
-
-pub loop-i-init : goal.loop-i-init
-loop-i-init c = (
-  decided_none (ReachedAt c.args.plan.now.links c.args.self.now.grants.now c.args.columns.now c.args.owners.now),
-  λ k m. absurd (both_ways (member 0 k) (member_zero k) m),
-)
 
 pub loop-i-preserved : goal.loop-i-preserved
 loop-i-preserved c =
@@ -39,8 +32,3 @@ loop-i-preserved c =
             subst (λ s. (k : ℕ) → member s k ≡ true → R k → ⊥) (sym w.resting-is) (rests_more R c.loop-i.resting _ i w.with_place-resting.ensures c.loop-i.invariant.1 rests),
           )
     ]
-
-pub returns : goal.returns
-returns c =
-    let all : c.loop-i.i ≡ length c.args.self.now.grants.now = omega (arith, c.loop-i-test.false, c.loop-i.auto.i-end) in
-    subst (DecidedTo (ReachedAt c.args.plan.now.links c.args.self.now.grants.now c.args.columns.now c.args.owners.now) c.loop-i.set) all c.loop-i.invariant.0
