@@ -1,8 +1,8 @@
 //! What the conditions of a book say, known and unknown.
-use crate::samples::{X, expected, told};
+use crate::samples::{Told, told};
 use books::book::Book;
 use conditions::language::Language;
-use conditions::truth::Truth;
+use conditions::truth::Truth::{self, False, True, Unknown};
 
 // Office hours; their "not"; group 3 and the trusted panel; a day from 9 to 1, which is none;
 // office hours or group 3.
@@ -12,43 +12,45 @@ static BOOK: [u8; 52] = [
     0xE0, 4, 56, 0xB2, 3, 0xB4,
 ];
 
-// Each case: the condition, TIME, DAY, GROUPS, PATH, and what is said: 0 unknown, 1 false, 2 true.
-static SAYS: [[u16; 6]; 27] = [
-    [2, 479, X, X, X, 1],
-    [2, 480, X, X, X, 2],
-    [2, 1080, X, X, X, 2],
-    [2, 1081, X, X, X, 1],
-    [2, X, X, X, X, 0],
-    [3, 479, X, X, X, 2],
-    [3, 480, X, X, X, 1],
-    [3, 1080, X, X, X, 1],
-    [3, 1081, X, X, X, 2],
-    [3, X, X, X, X, 0],
-    [4, X, X, 8, 1, 2],
-    [4, X, X, 8, 0, 1],
-    [4, X, X, 8, X, 0],
-    [4, X, X, 7, X, 1],
-    [4, X, X, X, 0, 1],
-    [4, X, X, X, 1, 0],
-    [5, X, 5, X, X, 1],
-    [5, X, X, X, X, 0],
-    [6, 600, X, X, X, 2],
-    [6, 0, X, X, X, 0],
-    [6, 0, X, 8, X, 2],
-    [6, 0, X, 7, X, 1],
-    [6, X, X, 7, X, 0],
-    [0, X, X, X, X, 2],
-    [1, X, X, X, X, 1],
-    [7, 600, X, 8, 1, 0],
-    [1024, 600, X, 8, 1, 0],
+/// A condition, what is told of TIME, DAY, GROUPS and PATH, and what the condition says then.
+type Case = (u16, Told, Truth);
+
+static SAYS: [Case; 27] = [
+    (2, (Some(479), None, None, None), False),
+    (2, (Some(480), None, None, None), True),
+    (2, (Some(1080), None, None, None), True),
+    (2, (Some(1081), None, None, None), False),
+    (2, (None, None, None, None), Unknown),
+    (3, (Some(479), None, None, None), True),
+    (3, (Some(480), None, None, None), False),
+    (3, (Some(1080), None, None, None), False),
+    (3, (Some(1081), None, None, None), True),
+    (3, (None, None, None, None), Unknown),
+    (4, (None, None, Some(8), Some(1)), True),
+    (4, (None, None, Some(8), Some(0)), False),
+    (4, (None, None, Some(8), None), Unknown),
+    (4, (None, None, Some(7), None), False),
+    (4, (None, None, None, Some(0)), False),
+    (4, (None, None, None, Some(1)), Unknown),
+    (5, (None, Some(5), None, None), False),
+    (5, (None, None, None, None), Unknown),
+    (6, (Some(600), None, None, None), True),
+    (6, (Some(0), None, None, None), Unknown),
+    (6, (Some(0), None, Some(8), None), True),
+    (6, (Some(0), None, Some(7), None), False),
+    (6, (None, None, Some(7), None), Unknown),
+    (0, (None, None, None, None), True),
+    (1, (None, None, None, None), False),
+    (7, (Some(600), None, Some(8), Some(1)), Unknown),
+    (1024, (Some(600), None, Some(8), Some(1)), Unknown),
 ];
 
 #[test]
 fn what_the_conditions_of_a_book_say(rt: HostRuntime) {
     let book = Book::open(&BOOK);
-    for case in SAYS {
-        let state = told(case[1], case[2], case[3], case[4]).state(1, None);
-        assert_eq!(rt; book.truth(case[0], &state), expected(case[5]));
+    for (condition, values, says) in &SAYS {
+        let state = told(*values).state(1, None);
+        assert_eq!(rt; book.truth(*condition, &state), *says);
     }
     assert_eq!(rt; book.count(), 7);
 }

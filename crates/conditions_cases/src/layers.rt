@@ -1,12 +1,12 @@
 //! Layers over languages, piled and lent.
 use crate::emergency::Emergency;
-use crate::samples::{X, at, expected, long_book, row, told};
+use crate::samples::{at, long_book, row};
 use books::book::Book;
 use books::open::office_hours;
 use conditions::distrust::Distrust;
 use conditions::joined::Joined;
 use conditions::language::{Language, holds};
-use conditions::truth::Truth;
+use conditions::truth::Truth::{self, False, True, Unknown};
 use sheets::sheet::Sheet;
 use states::report::Report;
 use states::state::State;
@@ -16,14 +16,14 @@ use std::test::Fail;
 /// A sheet of one row: before noon.
 fn mornings() -> Sheet {
     let mut sheet = Sheet::new();
-    let _ = sheet.add(row(0, 719, 127, 0, 0, 0));
+    let _ = sheet.add(row((0, 719, 127, 0, 0, 0)));
     sheet
 }
 
-/// Compares the first eight truths with a table: 0 unknown, 1 false, 2 true.
-fn check_truths<L: Language>(rt: &impl Abort, language: &L, state: &State, table: &[u16; 8]) {
-    for n in 0..8u16 {
-        assert_eq!(rt; language.truth(n, state), expected(table[n as usize]));
+/// Compares the first eight truths with a table.
+fn check_truths<L: Language>(rt: &impl Abort, language: &L, state: &State, table: &[Truth; 8]) {
+    for (n, says) in (0..8u16).zip(table) {
+        assert_eq!(rt; language.truth(n, state), *says);
     }
 }
 
@@ -34,12 +34,26 @@ fn distrust_makes_what_it_names_unknown(rt: HostRuntime) {
         below: Book::open(&hours),
         hidden: 0b100,
     };
-    check_truths(&rt, &doubted, &at(600), &[2, 1, 0, 0, 0, 0, 0, 0]);
+    check_truths(
+        &rt,
+        &doubted,
+        &at(600),
+        &[
+            True, False, Unknown, Unknown, Unknown, Unknown, Unknown, Unknown,
+        ],
+    );
     let other = Distrust {
         below: Book::open(&hours),
         hidden: 0b1111_1011,
     };
-    check_truths(&rt, &other, &at(600), &[2, 1, 2, 0, 0, 0, 0, 0]);
+    check_truths(
+        &rt,
+        &other,
+        &at(600),
+        &[
+            True, False, True, Unknown, Unknown, Unknown, Unknown, Unknown,
+        ],
+    );
 }
 
 #[test]
@@ -51,11 +65,11 @@ fn distrust_cannot_hide_the_caller_or_the_receiver(rt: HostRuntime) {
         hidden: 0xFF,
     };
     assert_eq!(rt;
-        doubted.truth(2, &told(X, X, X, X).state(1, Some(2))),
+        doubted.truth(2, &Report::default().state(1, Some(2))),
         Truth::True
     );
     assert_eq!(rt;
-        doubted.truth(2, &told(X, X, X, X).state(1, None)),
+        doubted.truth(2, &Report::default().state(1, None)),
         Truth::Unknown
     );
 }
@@ -68,8 +82,18 @@ fn joined_numbers_stand_behind_the_first(rt: HostRuntime) {
         second: mornings(),
     };
     assert_eq!(rt; both.count(), 6);
-    check_truths(&rt, &both, &at(800), &[2, 1, 2, 2, 1, 1, 0, 0]);
-    check_truths(&rt, &both, &at(100), &[2, 1, 1, 2, 1, 2, 0, 0]);
+    check_truths(
+        &rt,
+        &both,
+        &at(800),
+        &[True, False, True, True, False, False, Unknown, Unknown],
+    );
+    check_truths(
+        &rt,
+        &both,
+        &at(100),
+        &[True, False, False, True, False, True, Unknown, Unknown],
+    );
 }
 
 #[test]
@@ -105,11 +129,17 @@ fn a_pile_three_deep_of_lent_languages(rt: HostRuntime) {
         second: &book,
     };
     let alarm = Report {
+        time: Some(700),
         status: Some(1),
-        ..told(700, X, X, X)
+        ..Report::default()
     };
     assert_eq!(rt; pile.count(), 9);
-    check_truths(&rt, &pile, &alarm.state(1, None), &[2, 1, 2, 2, 1, 0, 2, 1]);
+    check_truths(
+        &rt,
+        &pile,
+        &alarm.state(1, None),
+        &[True, False, True, True, False, Unknown, True, False],
+    );
     assert_eq!(rt; pile.truth(8, &alarm.state(1, None)), Truth::True);
     assert!(rt; holds(&pile, 8, &at(700)));
     assert!(rt; !holds(&pile, 5, &at(700)));

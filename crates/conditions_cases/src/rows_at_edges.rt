@@ -1,64 +1,179 @@
 //! Rows of a sheet, at each edge of each part.
-use crate::samples::{X, expected, row, told};
+use crate::samples::{Parts, Told, ill_formed, row, told};
 use conditions::language::Language;
+use conditions::truth::Truth::{self, False, True, Unknown};
 use faults::Refusal;
 use sheets::sheet::Sheet;
 
-// Each case: the six parts, and the part that is refused, or 100 and the row's number.
-static ADDED: [[u16; 7]; 9] = [
-    [1439, 1439, 127, 0, 0, 0, 102],
-    [0, 0, 0, 65535, 1, 200, 103],
-    [1440, 0, 127, 0, 0, 0, 1],
-    [0, 1440, 127, 0, 0, 0, 2],
-    [0, 0, 128, 0, 0, 0, 3],
-    [0, 0, 127, 0, 2, 0, 5],
-    [0, 0, 127, 0, 0, 201, 6],
-    [0, 2000, 255, 0, 9, 255, 2],
-    [0, 1439, 127, 0, 0, 0, 104],
+/// A row, and its number, or the part that is refused.
+static ADDED: [(Parts, Result<u16, usize>); 9] = [
+    ((1439, 1439, 127, 0, 0, 0), Ok(2)),
+    ((0, 0, 0, 65535, 1, 200), Ok(3)),
+    ((1440, 0, 127, 0, 0, 0), Err(1)),
+    ((0, 1440, 127, 0, 0, 0), Err(2)),
+    ((0, 0, 128, 0, 0, 0), Err(3)),
+    ((0, 0, 127, 0, 2, 0), Err(5)),
+    ((0, 0, 127, 0, 0, 201), Err(6)),
+    ((0, 2000, 255, 0, 9, 255), Err(2)),
+    ((0, 1439, 127, 0, 0, 0), Ok(4)),
 ];
 
-// Each case: the six parts; TIME, DAY, GROUPS, PATH and the receiver; and what is said: 0 unknown,
-// 1 false, 2 true.
-static SAYS: [[u16; 12]; 24] = [
-    [0, 1439, 127, 0, 0, 0, X, X, X, X, X, 2],
-    [480, 1080, 127, 0, 0, 0, 479, X, X, X, X, 1],
-    [480, 1080, 127, 0, 0, 0, 480, X, X, X, X, 2],
-    [480, 1080, 127, 0, 0, 0, 1080, X, X, X, X, 2],
-    [480, 1080, 127, 0, 0, 0, 1081, X, X, X, X, 1],
-    [480, 1080, 127, 0, 0, 0, X, X, X, X, X, 0],
-    [1, 1439, 127, 0, 0, 0, X, X, X, X, X, 0],
-    [1000, 10, 127, 0, 0, 0, 1005, X, X, X, X, 1],
-    [0, 1439, 31, 0, 0, 0, X, 4, X, X, X, 2],
-    [0, 1439, 31, 0, 0, 0, X, 5, X, X, X, 1],
-    [0, 1439, 31, 0, 0, 0, X, X, X, X, X, 0],
-    [0, 1439, 0, 0, 0, 0, X, 0, X, X, X, 1],
-    [0, 1439, 127, 5, 0, 0, X, X, 7, X, X, 2],
-    [0, 1439, 127, 5, 0, 0, X, X, 3, X, X, 1],
-    [0, 1439, 127, 5, 0, 0, X, X, X, X, X, 0],
-    [0, 1439, 127, 32768, 0, 0, X, X, 32768, X, X, 2],
-    [0, 1439, 127, 0, 1, 0, X, X, X, 1, X, 2],
-    [0, 1439, 127, 0, 1, 0, X, X, X, 0, X, 1],
-    [0, 1439, 127, 0, 1, 0, X, X, X, X, X, 0],
-    [0, 1439, 127, 0, 0, 9, X, X, X, X, 9, 1],
-    [0, 1439, 127, 0, 0, 9, X, X, X, X, 8, 2],
-    [0, 1439, 127, 0, 0, 9, X, X, X, X, X, 0],
-    [480, 1080, 127, 0, 1, 0, 0, X, X, X, X, 1],
-    [480, 1080, 127, 0, 1, 0, 600, X, X, X, X, 0],
+/// A row; what is told of TIME, DAY, GROUPS and PATH; the receiver; and what the row says then.
+type Case = (Parts, Told, Option<u8>, Truth);
+
+static SAYS: [Case; 24] = [
+    (
+        (0, 1439, 127, 0, 0, 0),
+        (None, None, None, None),
+        None,
+        True,
+    ),
+    (
+        (480, 1080, 127, 0, 0, 0),
+        (Some(479), None, None, None),
+        None,
+        False,
+    ),
+    (
+        (480, 1080, 127, 0, 0, 0),
+        (Some(480), None, None, None),
+        None,
+        True,
+    ),
+    (
+        (480, 1080, 127, 0, 0, 0),
+        (Some(1080), None, None, None),
+        None,
+        True,
+    ),
+    (
+        (480, 1080, 127, 0, 0, 0),
+        (Some(1081), None, None, None),
+        None,
+        False,
+    ),
+    (
+        (480, 1080, 127, 0, 0, 0),
+        (None, None, None, None),
+        None,
+        Unknown,
+    ),
+    (
+        (1, 1439, 127, 0, 0, 0),
+        (None, None, None, None),
+        None,
+        Unknown,
+    ),
+    (
+        (1000, 10, 127, 0, 0, 0),
+        (Some(1005), None, None, None),
+        None,
+        False,
+    ),
+    (
+        (0, 1439, 31, 0, 0, 0),
+        (None, Some(4), None, None),
+        None,
+        True,
+    ),
+    (
+        (0, 1439, 31, 0, 0, 0),
+        (None, Some(5), None, None),
+        None,
+        False,
+    ),
+    (
+        (0, 1439, 31, 0, 0, 0),
+        (None, None, None, None),
+        None,
+        Unknown,
+    ),
+    (
+        (0, 1439, 0, 0, 0, 0),
+        (None, Some(0), None, None),
+        None,
+        False,
+    ),
+    (
+        (0, 1439, 127, 5, 0, 0),
+        (None, None, Some(7), None),
+        None,
+        True,
+    ),
+    (
+        (0, 1439, 127, 5, 0, 0),
+        (None, None, Some(3), None),
+        None,
+        False,
+    ),
+    (
+        (0, 1439, 127, 5, 0, 0),
+        (None, None, None, None),
+        None,
+        Unknown,
+    ),
+    (
+        (0, 1439, 127, 32768, 0, 0),
+        (None, None, Some(32768), None),
+        None,
+        True,
+    ),
+    (
+        (0, 1439, 127, 0, 1, 0),
+        (None, None, None, Some(1)),
+        None,
+        True,
+    ),
+    (
+        (0, 1439, 127, 0, 1, 0),
+        (None, None, None, Some(0)),
+        None,
+        False,
+    ),
+    (
+        (0, 1439, 127, 0, 1, 0),
+        (None, None, None, None),
+        None,
+        Unknown,
+    ),
+    (
+        (0, 1439, 127, 0, 0, 9),
+        (None, None, None, None),
+        Some(9),
+        False,
+    ),
+    (
+        (0, 1439, 127, 0, 0, 9),
+        (None, None, None, None),
+        Some(8),
+        True,
+    ),
+    (
+        (0, 1439, 127, 0, 0, 9),
+        (None, None, None, None),
+        None,
+        Unknown,
+    ),
+    (
+        (480, 1080, 127, 0, 1, 0),
+        (Some(0), None, None, None),
+        None,
+        False,
+    ),
+    (
+        (480, 1080, 127, 0, 1, 0),
+        (Some(600), None, None, None),
+        None,
+        Unknown,
+    ),
 ];
 
 #[test]
 fn each_part_at_its_greatest_value_and_past_it(rt: HostRuntime) {
     let mut sheet = Sheet::new();
-    for case in ADDED {
-        let answer = sheet.add(row(case[0], case[1], case[2], case[3], case[4], case[5]));
-        if case[6] < 100 {
-            assert_eq!(rt;
-                answer,
-                Err(Refusal::ConditionsIllFormed.at(case[6] as usize))
-            );
-        } else {
-            assert_eq!(rt; answer, Ok(case[6] - 100));
-        }
+    for (parts, answer) in &ADDED {
+        let answer = answer.map_err(|part| Refusal::ConditionsIllFormed.at(part));
+        assert_eq!(rt; sheet.add(row(*parts)), answer);
     }
     assert_eq!(rt; sheet.count(), 5);
 }
@@ -67,30 +182,19 @@ fn each_part_at_its_greatest_value_and_past_it(rt: HostRuntime) {
 fn a_full_sheet_is_said_before_a_bad_part(rt: HostRuntime) {
     let mut sheet = Sheet::new();
     for number in 2..66u16 {
-        assert_eq!(rt; sheet.add(row(0, 1439, 127, 0, 0, 0)), Ok(number));
+        assert_eq!(rt; sheet.add(row((0, 1439, 127, 0, 0, 0))), Ok(number));
     }
-    assert_eq!(rt;
-        sheet.add(row(0, 1439, 127, 0, 0, 0)),
-        Err(Refusal::ConditionsIllFormed.at(0))
-    );
-    assert_eq!(rt;
-        sheet.add(row(1440, 1439, 127, 0, 0, 0)),
-        Err(Refusal::ConditionsIllFormed.at(0))
-    );
+    assert_eq!(rt; sheet.add(row((0, 1439, 127, 0, 0, 0))), ill_formed(0));
+    assert_eq!(rt; sheet.add(row((1440, 1439, 127, 0, 0, 0))), ill_formed(0));
     assert_eq!(rt; sheet.count(), 66);
 }
 
 #[test]
 fn what_a_row_says(rt: HostRuntime) {
-    for case in SAYS {
+    for (parts, values, receiver, says) in &SAYS {
         let mut sheet = Sheet::new();
-        let _ = sheet.add(row(case[0], case[1], case[2], case[3], case[4], case[5]));
-        let receiver = if case[10] == X {
-            None
-        } else {
-            Some((case[10] % 256) as u8)
-        };
-        let state = told(case[6], case[7], case[8], case[9]).state(1, receiver);
-        assert_eq!(rt; sheet.truth(2, &state), expected(case[11]));
+        let _ = sheet.add(row(*parts));
+        let state = told(*values).state(1, *receiver);
+        assert_eq!(rt; sheet.truth(2, &state), *says);
     }
 }

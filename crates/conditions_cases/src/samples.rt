@@ -1,53 +1,51 @@
 //! What the cases share: states, rows and books made of numbers.
-use conditions::truth::Truth;
+use faults::{Fault, Refusal};
 use sheets::row::Row;
 use states::report::Report;
 use states::state::State;
 use std::alloc::{AllocError, Global};
 
-/// Stands for an unknown value in a table of cases.
-pub(crate) const X: u16 = 9999;
-
-fn known(value: u16) -> Option<u16> {
-    if value == X { None } else { Some(value) }
-}
+/// What is told of TIME, DAY, GROUPS and PATH, in a table of cases.
+pub(crate) type Told = (Option<u16>, Option<u16>, Option<u16>, Option<u16>);
 
 /// A report of four variables.
-pub(crate) fn told(time: u16, day: u16, groups: u16, path: u16) -> Report {
+pub(crate) fn told((time, day, groups, path): Told) -> Report {
     Report {
-        time: known(time),
-        day: known(day),
-        groups: known(groups),
-        path: known(path),
-        level: None,
-        status: None,
+        time,
+        day,
+        groups,
+        path,
+        ..Report::default()
     }
 }
 
 /// Person 1 calls at a minute of the day; nothing else is told.
 pub(crate) fn at(minute: u16) -> State {
-    told(minute, X, X, X).state(1, None)
+    let report = Report {
+        time: Some(minute),
+        ..Report::default()
+    };
+    report.state(1, None)
 }
 
-/// The truth of a number in a table of cases.
-pub(crate) fn expected(code: u16) -> Truth {
-    match code {
-        1 => Truth::False,
-        2 => Truth::True,
-        _ => Truth::Unknown,
-    }
-}
+/// The six parts of a row, in a table of cases.
+pub(crate) type Parts = (u16, u16, u8, u16, u8, u8);
 
-/// A row of six numbers; the small parts have one byte.
-pub(crate) fn row(from: u16, to: u16, days: u16, groups: u16, path: u16, barred: u16) -> Row {
+/// A row of six parts.
+pub(crate) fn row((from, to, days, groups, path, barred): Parts) -> Row {
     Row {
         from,
         to,
-        days: (days % 256) as u8,
+        days,
         groups,
-        path: (path % 256) as u8,
-        barred: (barred % 256) as u8,
+        path,
+        barred,
     }
+}
+
+/// What the check of a book and the adding of a row answer to what is ill formed.
+pub(crate) fn ill_formed(place: usize) -> Result<u16, Fault> {
+    Err(Refusal::ConditionsIllFormed.at(place))
 }
 
 /// Adds a field with a condition of `len` bytes: a test of group 0, denied again and again.

@@ -1,17 +1,16 @@
 //! Values at the edges of their ranges.
-use crate::samples::{X, told};
+use crate::samples::told;
 use faults::{Fault, Refusal};
 use states::state::State;
+use std::array;
 
 static GREATEST: [u16; 8] = [200, 200, 1439, 6, 65535, 1, 100, 1];
 
 /// The state in which only variable `v` is known.
 fn only(v: usize, value: u16) -> State {
-    let mut state = State { values: [None; 8] };
-    if v < 8 {
-        state.values[v] = Some(value);
+    State {
+        values: array::from_fn(|k| (k == v).then_some(value)),
     }
-    state
 }
 
 fn refused(v: usize) -> Result<(), Fault> {
@@ -20,8 +19,8 @@ fn refused(v: usize) -> Result<(), Fault> {
 
 #[test]
 fn each_variable_at_its_least_and_greatest_value(rt: HostRuntime) {
-    for v in 0..8usize {
-        assert_eq!(rt; only(v, GREATEST[v]).check_ranges(), Ok(()));
+    for (v, greatest) in GREATEST.iter().enumerate() {
+        assert_eq!(rt; only(v, *greatest).check_ranges(), Ok(()));
         assert_eq!(rt; only(v, 1).check_ranges(), Ok(()));
         let zero = if v < 2 { refused(v) } else { Ok(()) };
         assert_eq!(rt; only(v, 0).check_ranges(), zero);
@@ -30,8 +29,8 @@ fn each_variable_at_its_least_and_greatest_value(rt: HostRuntime) {
 
 #[test]
 fn each_variable_past_its_greatest_value(rt: HostRuntime) {
-    for v in 0..8usize {
-        let past = GREATEST[v].saturating_add(1);
+    for (v, greatest) in GREATEST.iter().enumerate() {
+        let past = greatest.saturating_add(1);
         let answer = if v == 4 { Ok(()) } else { refused(v) };
         assert_eq!(rt; only(v, past).check_ranges(), answer);
     }
@@ -39,7 +38,7 @@ fn each_variable_past_its_greatest_value(rt: HostRuntime) {
 
 #[test]
 fn the_first_of_several_is_named(rt: HostRuntime) {
-    let bad = told(X, 7, X, 2);
+    let bad = told((None, Some(7), None, Some(2)));
     assert_eq!(rt; bad.state(1, Some(2)).check_ranges(), refused(3));
     assert_eq!(rt; bad.state(201, None).check_ranges(), refused(0));
     assert_eq!(rt; bad.state(200, Some(0)).check_ranges(), refused(1));
@@ -47,10 +46,12 @@ fn the_first_of_several_is_named(rt: HostRuntime) {
 
 #[test]
 fn a_kept_part_knows_the_caller_the_receiver_and_the_set(rt: HostRuntime) {
-    let kept = told(600, 2, X, 1).state(7, Some(9)).kept(0b0010_0100);
+    let kept = told((Some(600), Some(2), None, Some(1)))
+        .state(7, Some(9))
+        .kept(0b0010_0100);
     let known = [Some(7), Some(9), Some(600), None, None, Some(1), None, None];
-    for v in 0..8u8 {
-        assert_eq!(rt; kept.known(v), known[v as usize]);
+    for (v, value) in (0..8u8).zip(known) {
+        assert_eq!(rt; kept.known(v), value);
     }
     assert_eq!(rt; kept.known(8), None);
 }
