@@ -9,18 +9,15 @@ use states::state::{DAY, GROUPS, LEVEL, PATH, STATUS, TIME};
 pub(crate) fn is_state(value: &[u8]) -> bool
     ensures { result ≡ rising 1 value.now }
 {
+    let (entries, left_over) = value.as_chunks::<3>();
     let mut last: u8 = 1;
-    let mut rest = value;
-    // stays: the pattern names an entry's bytes and what is left over; chunks of three would be
-    // indexed, and their remainder asked for apart.
-    while let [v, _, _, more @ ..] = rest {
-        if *v <= last || *v > 7 {
+    for &[v, _, _] in entries {
+        if v <= last || v > 7 {
             return false;
         }
-        last = *v;
-        rest = more;
+        last = v;
     }
-    rest.is_empty()
+    left_over.is_empty()
 }
 
 /// The report with one value more.
@@ -42,12 +39,10 @@ fn note(report: &mut Report, v: u8, n: u16)
 pub(crate) fn report_of(value: &[u8]) -> Report
     ensures { result ≡ reported unknown value.now }
 {
+    let (entries, _) = value.as_chunks::<3>();
     let mut report = Report::default();
-    let mut rest = value;
-    // stays: as in `is_state`, the pattern names what chunks of three would index.
-    while let [v, hi, lo, more @ ..] = rest {
-        note(&mut report, *v, u16::from_be_bytes([*hi, *lo]));
-        rest = more;
+    for &[v, hi, lo] in entries {
+        note(&mut report, v, u16::from_be_bytes([hi, lo]));
     }
     report
 }

@@ -1,11 +1,6 @@
-use Rattle.std.proofs.Common.{◌<◌, ◌≤◌, length, get_or, ◌∙◌, arith, ltb-false}
-use Rattle.std.proofs.lemmas.List.{take_rest}
-use Rattle.commands.proofs.Entries.{rising_more}
+use Rattle.std.proofs.Common.{◌%◌, false, cond, eqb, length, ◌∙◌}
+use Rattle.commands.proofs.Entries.{climbing, rising_by}
 use Rattle.commands.proofs.values.is_state.Goals as goal
 
-pub loop-rest-preserved : goal.loop-rest-preserved
-loop-rest-preserved c =
-    let p : 3 ≤ length c.loop-rest.rest.now = omega (arith, ltb-false) in
-    let q : c.loop-rest.last < get_or c.loop-rest.rest.now 0 0 = omega arith in
-    let s : get_or c.loop-rest.rest.now 0 0 < 8 = omega arith in
-    rw take_rest (rising_more c.loop-rest.last c.loop-rest.rest.now p q s ∙ c.loop-rest.invariant)
+pub loop-v-init : goal.loop-v-init
+loop-v-init c = (λ i. cond (climbing 1 (c.as_chunks.ensures.front i)) (eqb (length c.args.value.now % 3) 0) false) ∙ rising_by 1 c.args.value.now

@@ -1,9 +1,7 @@
-use Rattle.std.proofs.Common.{◌≡◌, length}
+use Rattle.std.proofs.Common.{◌≡◌, ◌%◌, false, cond, eqb, length, drop}
 use Rattle.commands.specs.Steps.{rising}
+use Rattle.commands.proofs.Entries.{climbing}
 use Rattle.commands.proofs.values.is_state.Given as goal
 
-abbrev pub invariant-loop-rest : goal.invariant-loop-rest
-invariant-loop-rest l = rising l.last l.rest ≡ rising 1 l.value
-
-abbrev pub decreases-loop-rest : goal.decreases-loop-rest
-decreases-loop-rest l = length l.rest
+abbrev pub invariant-loop-v : goal.invariant-loop-v
+invariant-loop-v l = cond (climbing l.last (drop l.v-index l.entries)) (eqb (length l.value % 3) 0) false ≡ rising 1 l.value

@@ -1,9 +1,7 @@
-use Rattle.std.proofs.Common.{◌≡◌, length}
+use Rattle.std.proofs.Common.{◌≡◌, drop}
 use Rattle.commands.specs.Steps.{reported, unknown}
+use Rattle.commands.proofs.Entries.{told_by}
 use Rattle.commands.proofs.values.report_of.Given as goal
 
-abbrev pub invariant-loop-rest : goal.invariant-loop-rest
-invariant-loop-rest l = reported l.report l.rest ≡ reported unknown l.value
-
-abbrev pub decreases-loop-rest : goal.decreases-loop-rest
-decreases-loop-rest l = length l.rest
+abbrev pub invariant-loop-v : goal.invariant-loop-v
+invariant-loop-v l = told_by l.report (drop l.v-index l.entries) ≡ reported unknown l.value
