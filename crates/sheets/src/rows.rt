@@ -15,7 +15,8 @@ use states::state::State;
 impl Sheet {
     /// A sheet without rows.
     pub fn new() -> Sheet
-        ensures { result.rows.items ≡ [] }
+        ensures used { array_vec_len result.rows ≡ 0 }
+        ensures rows { result.rows.items ≡ [] }
     {
         Sheet {
             rows: ArrayVec::new(),
@@ -28,6 +29,7 @@ impl Sheet {
         ensures is { result ≡ added (array_vec_len self.old.rows) row }
         ensures law { Judged (array_vec_len self.old.rows) row result }
         ensures rows { self.new.rows.items ≡ (if is_ok result then self.old.rows.items ++ row ∷ [] else self.old.rows.items) }
+        ensures used { array_vec_len self.new.rows ≡ (if is_ok result then array_vec_len self.old.rows + 1 else array_vec_len self.old.rows) }
     {
         if self.rows.is_full() {
             return Err(Refusal::ConditionsIllFormed.at(0));
