@@ -2,7 +2,7 @@
 use crate::samples::{
     check_chain, check_chainless, check_given, check_refused, fitted, sheet, terms, untold,
 };
-use crate::visits::look;
+use crate::visits::{End, visit};
 use faults::Refusal;
 use grants::Mode;
 use std::test::Fail;
@@ -80,7 +80,7 @@ fn an_amendment_has_a_new_number_and_the_old_hook_and_grantee(rt: HostRuntime) -
     let mut list = [0; 8];
     check_refused(
         &rt,
-        look(&mut cabinet, 2, 5, &untold(), &mut list),
+        visit(End::Left, &mut cabinet, 2, 5, &untold(), &mut list),
         Refusal::NoChain,
         0,
     )?;

@@ -1,6 +1,6 @@
 //! Grants are judged by kept states, draws by whole ones.
 use crate::samples::{check_refused, fitted, sheet, terms, told, untold};
-use crate::visits::look;
+use crate::visits::{End, visit};
 use conditions::language::Language;
 use controller::cabinet::Cabinet;
 use faults::{Fault, Refusal};
@@ -105,17 +105,23 @@ fn an_execute_condition_knows_what_is_reported(rt: HostRuntime) -> Result<(), Fa
     assert_eq!(rt; passed_on(&mut cabinet, 3, told(None, Some(6))), Ok(2));
     let monday = told(None, Some(0));
     let sunday = told(None, Some(6));
-    assert_eq!(rt; look(&mut cabinet, 2, 0, &monday, &mut list), Ok((0, 2, 1)));
-    assert_eq!(rt; look(&mut cabinet, 3, 0, &monday, &mut list), Ok((0, 3, 2)));
+    assert_eq!(rt;
+        visit(End::Left, &mut cabinet, 2, 0, &monday, &mut list),
+        Ok((0, 2, 1))
+    );
+    assert_eq!(rt;
+        visit(End::Left, &mut cabinet, 3, 0, &monday, &mut list),
+        Ok((0, 3, 2))
+    );
     check_refused(
         &rt,
-        look(&mut cabinet, 3, 0, &sunday, &mut list),
+        visit(End::Left, &mut cabinet, 3, 0, &sunday, &mut list),
         Refusal::NoChain,
         0,
     )?;
     check_refused(
         &rt,
-        look(&mut cabinet, 3, 0, &untold(), &mut list),
+        visit(End::Left, &mut cabinet, 3, 0, &untold(), &mut list),
         Refusal::NoChain,
         0,
     )
@@ -141,7 +147,7 @@ fn the_receiver_is_known_to_grants_and_not_to_draws(rt: HostRuntime) -> Result<(
     );
     check_refused(
         &rt,
-        look(&mut cabinet, 2, 1, &untold(), &mut [0; 8]),
+        visit(End::Left, &mut cabinet, 2, 1, &untold(), &mut [0; 8]),
         Refusal::NoChain,
         0,
     )
@@ -163,7 +169,7 @@ fn a_condition_of_a_grant_is_asked_of_all_that_follow(rt: HostRuntime) -> Result
     };
     assert_eq!(rt; cabinet.issue(3, 0, 4, &noon), Ok(3));
     assert_eq!(rt;
-        look(&mut cabinet, 4, 0, &untold(), &mut [0; 8]),
+        visit(End::Left, &mut cabinet, 4, 0, &untold(), &mut [0; 8]),
         Ok((0, 4, 3))
     );
     Ok(())

@@ -1,6 +1,6 @@
 //! What each call refuses, by number and place, and which of several faults it tells.
 use crate::samples::{check_given, check_refused, fitted, owners, sheet, terms, told, untold};
-use crate::visits::{fetch, look};
+use crate::visits::{End, visit};
 use controller::cabinet::Cabinet;
 use faults::{Fault, Refusal};
 use grants::Mode;
@@ -222,11 +222,18 @@ fn draws_and_returns(rt: HostRuntime) -> Result<(), Fail> {
     let mut cabinet = fitted(sheet(), 0);
     let mut list = [0; 8];
     assert_eq!(rt;
-        fetch(&mut cabinet, 1, 0, &untold(), &mut list),
+        visit(End::Taken, &mut cabinet, 1, 0, &untold(), &mut list),
         Ok((0, 1, 0))
     );
     for (caller, hook, day, path, refusal, place) in DRAWS {
-        let answer = look(&mut cabinet, caller, hook, &report(day, path), &mut list);
+        let answer = visit(
+            End::Left,
+            &mut cabinet,
+            caller,
+            hook,
+            &report(day, path),
+            &mut list,
+        );
         check_refused(&rt, answer, refusal, place)?;
     }
     for (caller, hook, refusal, place) in RETURNS {
@@ -244,7 +251,7 @@ fn the_first_variable_out_of_range_is_told(rt: HostRuntime) -> Result<(), Fail> 
         let place = if v == 4 { 7 } else { v };
         check_refused(
             &rt,
-            look(&mut cabinet, 1, 0, &past(v), &mut [0; 8]),
+            visit(End::Left, &mut cabinet, 1, 0, &past(v), &mut [0; 8]),
             Refusal::ValueOutOfRange,
             place,
         )?;
@@ -265,7 +272,7 @@ fn before_the_fitting_there_is_no_hook_and_no_grant(rt: HostRuntime) -> Result<(
         )?;
         check_refused(
             &rt,
-            look(&mut cabinet, 1, hook, &untold(), &mut [0; 8]),
+            visit(End::Left, &mut cabinet, 1, hook, &untold(), &mut [0; 8]),
             Refusal::NoSuchHook,
             hook as usize,
         )?;

@@ -1,5 +1,5 @@
 //! What the cases share: reports, terms, cabinets, and what is checked of an answer.
-use crate::visits::look;
+use crate::visits::{End, visit};
 use conditions::language::Language;
 use controller::cabinet::Cabinet;
 use faults::{Fault, Layer, Refusal};
@@ -128,7 +128,7 @@ pub(crate) fn check_chain<L: Language>(
 ) -> Result<(), Fail> {
     let mut list = [9; 8];
     assert_eq!(rt;
-        look(cabinet, caller, hook, &untold(), &mut list),
+        visit(End::Left, cabinet, caller, hook, &untold(), &mut list),
         Ok((hook, caller, length))
     );
     assert_eq!(rt; list, *expected);
@@ -144,7 +144,7 @@ pub(crate) fn check_chainless<L: Language>(
     let mut list = [9; 8];
     check_refused(
         rt,
-        look(cabinet, caller, 0, &untold(), &mut list),
+        visit(End::Left, cabinet, caller, 0, &untold(), &mut list),
         Refusal::NoChain,
         0,
     )

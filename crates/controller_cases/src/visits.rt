@@ -21,47 +21,37 @@ fn draw<L: Language>(
     cabinet.draw(caller, hook, report, chain)
 }
 
-// stays: what follows stands once for taking and once for leaving, since the check needs the contract of the
-// call itself to see that a slip of this very cabinet cannot come back
-
-/// Leaving is accepted on a slip of this cabinet.
-fn left<L: Language>(cabinet: &mut Cabinet<L>, slip: Slip) -> Result<(), RefusedSlip>
-    requires { Home cabinet.old slip }
-    ensures { result ≡ Ok tt }
-{
-    cabinet.leave(slip)
+/// What becomes of a key that was drawn.
+#[derive(Clone, Copy)]
+pub(crate) enum End {
+    Taken,
+    Left,
 }
 
-/// Taking is accepted on a slip of this cabinet.
-fn taken<L: Language>(cabinet: &mut Cabinet<L>, slip: Slip) -> Result<(), RefusedSlip>
-    requires { Home cabinet.old slip }
-    ensures { result ≡ Ok tt }
+/// Spends a slip, which may be of another cabinet.
+fn spend<L: Language>(cabinet: &mut Cabinet<L>, slip: Slip, end: End) -> Result<(), RefusedSlip>
+    ensures home { Home cabinet.old slip → result ≡ Ok tt }
+    ensures back { IfErr result (λ refused. refused.slip ≡ slip) }
 {
-    cabinet.take(slip)
+    match end {
+        End::Taken => cabinet.take(slip),
+        End::Left => cabinet.leave(slip),
+    }
 }
 
-/// Leaves a slip of this cabinet.
-fn leave<L: Language>(cabinet: &mut Cabinet<L>, slip: Slip)
+/// Spends a slip of this cabinet.
+fn spend_at_home<L: Language>(cabinet: &mut Cabinet<L>, slip: Slip, end: End)
     requires { Home cabinet.old slip }
 {
-    match left(cabinet, slip) {
+    match spend(cabinet, slip, end) {
         Ok(()) => {}
         Err(_) => unreachable(),
     }
 }
 
-/// Takes on a slip of this cabinet.
-fn take<L: Language>(cabinet: &mut Cabinet<L>, slip: Slip)
-    requires { Home cabinet.old slip }
-{
-    match taken(cabinet, slip) {
-        Ok(()) => {}
-        Err(_) => unreachable(),
-    }
-}
-
-/// A draw whose slip is left at once: its hook, person and length.
-pub(crate) fn look<L: Language>(
+/// A draw whose slip is spent at once: its hook, person and length.
+pub(crate) fn visit<L: Language>(
+    end: End,
     cabinet: &mut Cabinet<L>,
     caller: u8,
     hook: u8,
@@ -70,40 +60,13 @@ pub(crate) fn look<L: Language>(
 ) -> Result<(u8, u8, u8), Fault> {
     let slip = draw(cabinet, caller, hook, report, chain)?;
     let told = (slip.hook(), slip.person(), slip.length());
-    leave(cabinet, slip);
+    spend_at_home(cabinet, slip, end);
     Ok(told)
 }
 
-/// A draw whose slip is taken at once: its hook, person and length.
-pub(crate) fn fetch<L: Language>(
-    cabinet: &mut Cabinet<L>,
-    caller: u8,
-    hook: u8,
-    report: &Report,
-    chain: &mut [u32; 8],
-) -> Result<(u8, u8, u8), Fault> {
-    let slip = draw(cabinet, caller, hook, report, chain)?;
-    let told = (slip.hook(), slip.person(), slip.length());
-    take(cabinet, slip);
-    Ok(told)
-}
-
-/// Takes on a slip that may be of another cabinet.
-fn try_take<L: Language>(cabinet: &mut Cabinet<L>, slip: Slip) -> Result<(), RefusedSlip>
-    ensures { IfErr result (λ refused. refused.slip ≡ slip) }
-{
-    cabinet.take(slip)
-}
-
-/// Leaves a slip that may be of another cabinet.
-fn try_leave<L: Language>(cabinet: &mut Cabinet<L>, slip: Slip) -> Result<(), RefusedSlip>
-    ensures { IfErr result (λ refused. refused.slip ≡ slip) }
-{
-    cabinet.leave(slip)
-}
-
-/// Takes at one cabinet on a slip of another, which is left at home if it comes back.
-pub(crate) fn take_away<L: Language>(
+/// Spends at one cabinet a slip of another, where it is spent in the other way if it comes back.
+pub(crate) fn visit_away<L: Language>(
+    end: End,
     home: &mut Cabinet<L>,
     away: &mut Cabinet<L>,
     caller: u8,
@@ -111,28 +74,14 @@ pub(crate) fn take_away<L: Language>(
     report: &Report,
 ) -> Result<(), Fault> {
     let slip = draw(home, caller, hook, report, &mut [0; 8])?;
-    match try_take(away, slip) {
+    match spend(away, slip, end) {
         Ok(()) => Ok(()),
         Err(RefusedSlip { fault, slip }) => {
-            leave(home, slip);
-            Err(fault)
-        }
-    }
-}
-
-/// Leaves at one cabinet a slip of another, which is taken at home if it comes back.
-pub(crate) fn leave_away<L: Language>(
-    home: &mut Cabinet<L>,
-    away: &mut Cabinet<L>,
-    caller: u8,
-    hook: u8,
-    report: &Report,
-) -> Result<(), Fault> {
-    let slip = draw(home, caller, hook, report, &mut [0; 8])?;
-    match try_leave(away, slip) {
-        Ok(()) => Ok(()),
-        Err(RefusedSlip { fault, slip }) => {
-            take(home, slip);
+            let other = match end {
+                End::Taken => End::Left,
+                End::Left => End::Taken,
+            };
+            spend_at_home(home, slip, other);
             Err(fault)
         }
     }

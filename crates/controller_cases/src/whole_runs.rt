@@ -1,6 +1,6 @@
 //! Lists of calls on a new cabinet, over a book, a sheet and a pile of layers.
 use crate::samples::{check_refused, fitted, owners, sheet, terms, told, untold};
-use crate::visits::{look, take_away};
+use crate::visits::{End, visit, visit_away};
 use books::book::Book;
 use books::open::office_hours;
 use conditions::distrust::Distrust;
@@ -150,7 +150,7 @@ fn calls_past_the_last_place_are_not_performed(rt: HostRuntime) -> Result<(), Fa
     let mut unfitted = replay(sheet(), &calls, &mut []);
     check_refused(
         &rt,
-        look(&mut unfitted, 1, 0, &untold(), &mut [0; 8]),
+        visit(End::Left, &mut unfitted, 1, 0, &untold(), &mut [0; 8]),
         Refusal::NoSuchHook,
         0,
     )
@@ -194,15 +194,18 @@ fn a_slip_of_another_person_comes_back(rt: HostRuntime) -> Result<(), Fail> {
     assert_eq!(rt; home.issue(1, 0, 2, &free), Ok(1));
     check_refused(
         &rt,
-        take_away(&mut home, &mut away, 2, 0, &untold()),
+        visit_away(End::Taken, &mut home, &mut away, 2, 0, &untold()),
         Refusal::NotPromised,
         0,
     )?;
     assert_eq!(rt;
-        look(&mut home, 2, 0, &untold(), &mut [0; 8]),
+        visit(End::Left, &mut home, 2, 0, &untold(), &mut [0; 8]),
         Ok((0, 2, 1))
     );
-    assert_eq!(rt; take_away(&mut home, &mut away, 1, 0, &untold()), Ok(()));
+    assert_eq!(rt;
+        visit_away(End::Taken, &mut home, &mut away, 1, 0, &untold()),
+        Ok(())
+    );
     assert_eq!(rt; away.give_back(1, 0), Ok(()));
     Ok(())
 }

@@ -1,5 +1,8 @@
 //! Every event at a key that is in, promised and out; slips of another hook and of another person.
 //! A slip cannot be let go, so each test spends those that it draws.
+ghost use Rattle.std.specs.Prelude.{◌≡◌, IfErr, Ok};
+ghost use Rattle.loans.specs.Hooks.{Promises};
+
 use faults::{Fault, Refusal};
 use loans::slip::{RefusedSlip, Slip};
 use loans::state::HookState;
@@ -10,45 +13,38 @@ const HOOK: u8 = 31;
 
 const PERSON: u8 = 7;
 
-// stays: what follows stands once for taking and once for leaving, since the check needs the contract of the
-// call itself to see that a slip of these very loans cannot come back
+/// What becomes of a key that was drawn.
+#[derive(Clone, Copy)]
+enum End {
+    Taken,
+    Left,
+}
 
-/// A draw whose slip is taken at once.
-fn fetch(loans: &mut Loans, hook: u8, person: u8) -> Result<(), Fault> {
+/// Spends a slip, which may be of other loans.
+fn spend(loans: &mut Loans, slip: Slip, end: End) -> Result<(), RefusedSlip>
+    ensures home { Promises loans.old slip → result ≡ Ok tt }
+    ensures back { IfErr result (λ refused. (refused.slip ≡ slip) × (loans.new ≡ loans.old)) }
+{
+    match end {
+        End::Taken => loans.take(slip),
+        End::Left => loans.leave(slip),
+    }
+}
+
+/// A draw whose slip is spent at once.
+fn visit(end: End, loans: &mut Loans, hook: u8, person: u8) -> Result<(), Fault> {
     let slip = loans.draw(hook, person, 0)?;
-    match loans.take(slip) {
+    match spend(loans, slip, end) {
         Ok(()) => Ok(()),
         Err(_) => unreachable(),
     }
 }
 
-/// A draw whose slip is left at once.
-fn look(loans: &mut Loans, hook: u8, person: u8) -> Result<(), Fault> {
-    let slip = loans.draw(hook, person, 0)?;
-    match loans.leave(slip) {
-        Ok(()) => Ok(()),
-        Err(_) => unreachable(),
-    }
-}
-
-/// Takes on a slip of another cabinet, which leaves it there if it comes back.
-fn take(loans: &mut Loans, hook: u8, person: u8) -> Result<(), Fault> {
+/// Spends a slip of another cabinet, where it is left if it comes back.
+fn visit_away(end: End, loans: &mut Loans, hook: u8, person: u8) -> Result<(), Fault> {
     let mut home = Loans::new();
     let slip = home.draw(hook, person, 0)?;
-    match loans.take(slip) {
-        Ok(()) => Ok(()),
-        Err(RefusedSlip { fault, slip }) => match home.leave(slip) {
-            Ok(()) => Err(fault),
-            Err(_) => unreachable(),
-        },
-    }
-}
-
-/// Leaves a slip of another cabinet, which leaves it there if it comes back.
-fn leave(loans: &mut Loans, hook: u8, person: u8) -> Result<(), Fault> {
-    let mut home = Loans::new();
-    let slip = home.draw(hook, person, 0)?;
-    match loans.leave(slip) {
+    match spend(loans, slip, end) {
         Ok(()) => Ok(()),
         Err(RefusedSlip { fault, slip }) => match home.leave(slip) {
             Ok(()) => Err(fault),
@@ -65,32 +61,35 @@ fn refused(refusal: Refusal) -> Result<(), Fault> {
 fn a_key_that_is_in_can_only_be_drawn(rt: HostRuntime) {
     let mut loans = Loans::new();
     assert_eq!(rt;
-        take(&mut loans, HOOK, PERSON),
+        visit_away(End::Taken, &mut loans, HOOK, PERSON),
         refused(Refusal::NotPromised)
     );
     assert_eq!(rt;
-        leave(&mut loans, HOOK, PERSON),
+        visit_away(End::Left, &mut loans, HOOK, PERSON),
         refused(Refusal::NotPromised)
     );
     assert_eq!(rt; loans.give_back(HOOK), refused(Refusal::KeyNotOut));
     assert_eq!(rt; loans.state(HOOK), HookState::In);
-    assert_eq!(rt; look(&mut loans, HOOK, PERSON), Ok(()));
+    assert_eq!(rt; visit(End::Left, &mut loans, HOOK, PERSON), Ok(()));
     assert_eq!(rt; loans.state(HOOK), HookState::In);
-    assert_eq!(rt; fetch(&mut loans, HOOK, PERSON), Ok(()));
+    assert_eq!(rt; visit(End::Taken, &mut loans, HOOK, PERSON), Ok(()));
     assert_eq!(rt; loans.state(HOOK), HookState::Out);
 }
 
 #[test]
 fn a_key_that_is_out_can_only_be_returned(rt: HostRuntime) {
     let mut loans = Loans::new();
-    assert_eq!(rt; fetch(&mut loans, HOOK, PERSON), Ok(()));
-    assert_eq!(rt; fetch(&mut loans, HOOK, PERSON), refused(Refusal::KeyNotIn));
+    assert_eq!(rt; visit(End::Taken, &mut loans, HOOK, PERSON), Ok(()));
     assert_eq!(rt;
-        take(&mut loans, HOOK, PERSON),
+        visit(End::Taken, &mut loans, HOOK, PERSON),
+        refused(Refusal::KeyNotIn)
+    );
+    assert_eq!(rt;
+        visit_away(End::Taken, &mut loans, HOOK, PERSON),
         refused(Refusal::NotPromised)
     );
     assert_eq!(rt;
-        leave(&mut loans, HOOK, PERSON),
+        visit_away(End::Left, &mut loans, HOOK, PERSON),
         refused(Refusal::NotPromised)
     );
     assert_eq!(rt; loans.state(HOOK), HookState::Out);
@@ -103,12 +102,12 @@ fn past_the_last_hook_there_is_no_key(rt: HostRuntime) {
     let mut loans = Loans::new();
     assert_eq!(rt; loans.state(32), HookState::In);
     assert_eq!(rt;
-        fetch(&mut loans, 32, PERSON),
+        visit(End::Taken, &mut loans, 32, PERSON),
         Err(Refusal::NoSuchHook.at(32))
     );
     assert_eq!(rt; loans.give_back(32), Err(Refusal::KeyNotOut.at(32)));
     assert_eq!(rt;
-        fetch(&mut loans, 255, PERSON),
+        visit(End::Taken, &mut loans, 255, PERSON),
         Err(Refusal::NoSuchHook.at(255))
     );
 }
@@ -117,7 +116,7 @@ fn past_the_last_hook_there_is_no_key(rt: HostRuntime) {
 fn every_key_can_be_out_at_once(rt: HostRuntime) {
     let mut loans = Loans::new();
     for hook in 0..32u8 {
-        assert_eq!(rt; fetch(&mut loans, 31 - hook, PERSON), Ok(()));
+        assert_eq!(rt; visit(End::Taken, &mut loans, 31 - hook, PERSON), Ok(()));
     }
     assert_eq!(rt; loans.give_back(0), Ok(()));
     assert_eq!(rt; loans.give_back(31), Ok(()));

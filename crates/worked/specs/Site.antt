@@ -31,7 +31,7 @@ fitting = Fit (1 ∷ replicate 31 0) 4
 
 -- an issue on hook 0
 abbrev pub issue : ℕ → ℕ → ℕ → ℕ → Mode → Report → Call
-issue caller grantee execute onward mode told = Issue caller 0 grantee execute onward mode told
+issue caller grantee execute onward mode told = Issue caller 0 grantee (record { execute = execute; onward = onward; mode = mode; report = told })
 
 -- no chain; the key of hook 0 is not in
 abbrev pub unjustified : Answer
