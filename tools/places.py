@@ -64,19 +64,48 @@ def shape(code):
 
 
 def point_1():
-    found = lines_that(r"^\s*(pub(\(crate\))? )?enum \w+")
+    found = []
+    for path, text in sources():
+        for m in re.finditer(r"^ *(?:pub(?:\(crate\))? )?enum (\w+)[^{]*\{\n(.*?)^ *\}", text, re.M | re.S):
+            body = re.sub(r"^\s*///.*\n", "", m.group(2), flags=re.M)
+            variants = re.findall(r"^    (\w+)(\(|,| \{)", body, re.M)
+            names = {name for name, _ in variants}
+            alone = sum(1 for _, after in variants if after == ",")
+            if "(Fault)" in body or names & {"Unknown", "Full", "Added", "Missing"} or (len(variants) == 2 and alone == 1):
+                found.append((path, text.count("\n", 0, m.start()) + 1, "enum " + m.group(1)))
     found += lines_that(r"^\s*(pub(\(crate\))? )?\w+: bool,$")
-    found += lines_that(r"^\s*(pub )?const [A-Z_]+: u8\b")
+    found += lines_that(r"^\s*pub const [A-Z_]+: u8\b")
     found += lines_that(r"^\s*static \w+: \[\[u\d+; \d+\]; \d+\]")
     found += lines_that(r"fn \w+\(code: u\d+\)")
+    for path, text in sources():
+        for m in re.finditer(r"(?<!fn )check_refused\(", text):
+            if re.fullmatch(r"\d+", arguments(text, m.end())[2]):
+                found.append((path, text.count("\n", 0, m.start()) + 1, "a refusal by its number"))
     return found
+
+
+def arguments(text, start):
+    """The arguments of a call whose bracket opens before `start`."""
+    depth, found, begin = 0, [], start
+    for i in range(start, len(text)):
+        if text[i] in "([{":
+            depth += 1
+        elif text[i] in ")]}":
+            if depth == 0:
+                found.append(text[begin:i].strip())
+                return found + [""] * 3
+            depth -= 1
+        elif text[i] == "," and depth == 0:
+            found.append(text[begin:i].strip())
+            begin = i + 1
+    return found + [""] * 3
 
 
 def point_2():
     groups = collections.defaultdict(list)
     for path, line, name, signature, _, body in functions():
         text = shape(body)
-        if len(text.split()) >= 12 and "#[test]" not in signature:
+        if len(text.split()) >= 12 and not is_test(path, line):
             groups[text].append((path, line, name))
     for path, text in sources():
         for m in re.finditer(r"^(?:pub(?:\(crate\))? )?struct \w+[^;{]*\{\n(.*?)^\}", text, re.M | re.S):
@@ -86,19 +115,37 @@ def point_2():
     return [place for places in groups.values() if len(places) > 1 for place in places]
 
 
+def is_test(path, line):
+    with open(path, encoding="utf-8") as f:
+        return f.read().split("\n")[line - 2].strip() == "#[test]"
+
+
 def point_3():
+    """A `while`; a range whose variable is an index or a shift; a counter beside a loop; arrays made entry by entry."""
     found = lines_that(r"\bwhile\b")
-    found += lines_that(r"\bfor \w+ in [\w.]+\s*\.\.=?")
-    found += lines_that(r"\w+\(\w+, 7\),?$")
+    for path, text in sources():
+        for m in re.finditer(r"^( *)for (\w+) in [^\n]*\.\.[^\n]*\{\n(.*?)^\1\}", text, re.M | re.S):
+            name, body = m.group(2), m.group(3)
+            if name != "_" and re.search(r"\[%s( as usize)?\]|\[%s [+-]|<< %s\b|\b\w+ \+= 1;" % (name, name, name), body):
+                found.append((path, text.count("\n", 0, m.start()) + 1, m.group(0).split("\n")[0].strip()))
+    found += lines_that(r"\w+\(\w+, (\w+, )?7\),?$")
     return sorted(found)
 
 
 def point_4():
     found = lines_that(r"fn (is_same|same|equal|check_answer|check_list)\b")
-    found += lines_that(r"fn (word|letter|\w+_letter|verb_text|refusal|refused|accepted)\b.*(&'static str|u8|String)")
-    found += lines_that(r"fn (\w+_of|number|is_true|is_resting|one|two|four|state)\((letter|mode|self|value|&self|b?)\b.*->")
-    found += lines_that(r"fn (blank|blank_draft|new_pen|new)\(\)|: (Failures|Report|Row) = |\bReport \{$")
+    found += lines_that(r"fn (word|letter|mode_letter|outcome_letter|verb_letter|verb_text)\(")
+    found += lines_that(r"fn (verb|mode|outcome)_of\(letter: u8\)")
+    found += lines_that(r"\{number\} \{place\}")
+    found += lines_that(r"fn (blank_draft|new_pen)\(\)|: Failures = ")
     found += lines_that(r"\* ?256|256 \*|/ 256")
+    for path, text in sources():
+        for m in re.finditer(r"Report \{\n[^}]*?None,\n[^}]*?None,\n[^}]*?\}", text):
+            found.append((path, text.count("\n", 0, m.start()) + 1, "a report with its unknown values written out"))
+        for m in re.finditer(r"match \w+(?:\.\w+\(\w+\))? \{\n *(?:None => None|Some\(\w+\) => Some\([^\n]*\)),\n *(?:None => None|Some\(\w+\) => Some\([^\n]*\)),\n *\}", text):
+            found.append((path, text.count("\n", 0, m.start()) + 1, "a match on an option that is map"))
+        for m in re.finditer(r"match \w+ \{\n *[\w:]+ => (?:true|false),\n *[\w: |]+ => (?:true|false),\n *\}", text):
+            found.append((path, text.count("\n", 0, m.start()) + 1, "a match that is matches!"))
     return sorted(set(found))
 
 
@@ -135,7 +182,7 @@ def point_6():
 
 
 def point_7():
-    return lines_that(r"which: Which|match self \{$|match which|: fn\(")
+    return lines_that(r"which: Which|: fn\(")
 
 
 def point_8():
