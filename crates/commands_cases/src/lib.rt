@@ -309,30 +309,30 @@ mod tests {
     struct Case(&'static [u8], &'static [u8], usize);
 
     // The offset at which the record of these fields and the bytes behind them is refused; none
-    // where it is read.
-    fn place(letters: &[u8], tail: &[u8]) -> Option<usize> {
+    // where it is read. No record of the cases has more than 96 bytes.
+    fn place(rt: &impl Abort, letters: &[u8], tail: &[u8]) -> Option<usize> {
         let mut record: ArrayVec<u8, 96> = ArrayVec::new();
         for letter in letters {
-            let _ = record.try_extend_from_slice(field(*letter));
+            assert!(rt; record.try_extend_from_slice(field(*letter)).is_ok());
         }
-        let _ = record.try_extend_from_slice(tail);
+        assert!(rt; record.try_extend_from_slice(tail).is_ok());
         read(record.as_slice()).err().map(|fault| fault.place)
     }
 
     fn all_refused(rt: &impl Abort, cases: &[Case]) {
         for Case(letters, tail, at) in cases {
-            assert_eq!(rt; place(letters, tail), Some(*at));
+            assert_eq!(rt; place(rt, letters, tail), Some(*at));
         }
     }
 
     // The whole records that the cases below change are read.
     #[test]
     fn whole_records(rt: HostRuntime) {
-        assert_eq!(rt; place(b"Ichgxyms", b""), None);
-        assert_eq!(rt; place(b"Acxymsn", b""), None);
-        assert_eq!(rt; place(b"Wcn", b""), None);
-        assert_eq!(rt; place(b"Dchso", b""), None);
-        assert_eq!(rt; place(b"Rch", b""), None);
+        assert_eq!(rt; place(&rt, b"Ichgxyms", b""), None);
+        assert_eq!(rt; place(&rt, b"Acxymsn", b""), None);
+        assert_eq!(rt; place(&rt, b"Wcn", b""), None);
+        assert_eq!(rt; place(&rt, b"Dchso", b""), None);
+        assert_eq!(rt; place(&rt, b"Rch", b""), None);
     }
 
     // The records that docs/COMMANDS.md shows as refused, in its order.
@@ -378,7 +378,7 @@ mod tests {
 
     #[test]
     fn no_record_at_all(rt: HostRuntime) {
-        assert_eq!(rt; place(b"", b""), Some(0));
+        assert_eq!(rt; place(&rt, b"", b""), Some(0));
     }
 
     // Told at the end; at the start where the verb is missing.

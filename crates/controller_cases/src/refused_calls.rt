@@ -155,6 +155,7 @@ fn past(v: usize) -> Report {
 #[test]
 fn reasons_have_their_numbers(rt: HostRuntime) {
     let reasons = [
+        (Refusal::CommandIllFormed, 1),
         (Refusal::NotAPerson, 2),
         (Refusal::NoSuchHook, 3),
         (Refusal::ValueOutOfRange, 4),
@@ -162,6 +163,7 @@ fn reasons_have_their_numbers(rt: HostRuntime) {
         (Refusal::GranteeIsCallerOrOwner, 6),
         (Refusal::NoSuchGrant, 7),
         (Refusal::NotTheGrantor, 8),
+        (Refusal::NumbersSpent, 9),
         (Refusal::RecordFull, 10),
         (Refusal::NoChain, 11),
         (Refusal::KeyNotIn, 12),
@@ -169,6 +171,7 @@ fn reasons_have_their_numbers(rt: HostRuntime) {
         (Refusal::NotPromised, 14),
         (Refusal::AlreadyFitted, 15),
         (Refusal::FittingIllFormed, 16),
+        (Refusal::ConditionsIllFormed, 17),
     ];
     for (reason, number) in reasons {
         assert_eq!(rt; reason.number(), number);
