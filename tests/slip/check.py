@@ -1,7 +1,7 @@
 """How a slip may be handled, asked of the compiler itself.
 
 A slip is made by a draw and spent by take or leave, and in no other way. Each sample below is a small
-program over a crate that hands slips out, `loans` or `controller`. The first spends its slip, and builds. Each other
+program over a crate that has slips, `loans` or `controller`. The first spends its slip, and builds. Each other
 one must not build, for the one error that is named. Nothing is proved here: `rt try` compiles a sample, and
 runs it where it builds.
 """
@@ -13,8 +13,24 @@ import tempfile
 
 ROOT = pathlib.Path(__file__).resolve().parents[2]
 
-# by the crate that hands the slip out: every crate that the samples need, each behind those that it needs itself; what takes
-# a slip; and the samples' program
+# a cabinet takes no slip but a cabinet's, whoever is named on it
+FOREIGN = (
+    "made by loans that stand by themselves",
+    """        if let Ok(other) = loans::table::Loans::new().draw(0, 1, 0) {
+            match cabinet.take(other) {
+                Ok(()) => {}
+                Err(_) => unreachable(),
+            }
+        }
+        match cabinet.leave(slip) {
+            Ok(()) => {}
+            Err(_) => unreachable(),
+        }""",
+    "error[mismatched-types]: expected `Slip`, found `Slip`: `Slip` is `controller::slip::Slip` in the first and `loans::slip::Slip` in the second",
+)
+
+# by the crate that has the slip: every crate that the samples need, each behind those that it needs itself; what takes
+# a slip; the samples' program; and samples of this crate's slip alone
 KINDS = {
     "loans": (
         ["faults", "numbered", "loans"],
@@ -29,6 +45,7 @@ fn main() {
     }
 }
 """,
+        [],
     ),
     "controller": (
         [
@@ -38,7 +55,7 @@ fn main() {
         ],
         "cabinet",
         """use controller::cabinet::Cabinet;
-use loans::slip::Slip;
+use controller::slip::Slip;
 use sheets::sheet::Sheet;
 use states::report::Report;
 
@@ -52,6 +69,7 @@ fn main() {
     }
 }
 """,
+        [FOREIGN],
     ),
 }
 PERSON = """
@@ -94,10 +112,10 @@ def is_as_it_must_be(said, error):
 
 def main():
     failed = 0
-    for kind, (libraries, taker, program) in KINDS.items():
+    for kind, (libraries, taker, program, more) in KINDS.items():
         with tempfile.TemporaryDirectory() as folder:
             visit = repository(pathlib.Path(folder), libraries)
-            for name, handling, error in SAMPLES:
+            for name, handling, error in SAMPLES + more:
                 text = program % handling.replace("TAKER", taker) + PERSON
                 (visit / "src/main.rt").write_text(text, encoding="utf-8")
                 run = subprocess.run(["rt", "try"], cwd=visit, capture_output=True, text=True)

@@ -28,7 +28,7 @@ use Rattle.ledger.specs.Ledgers.{world_with, owner_in, chain_on_record, named_on
 none_some : {A : Type 0} {x : A} → Some x ≡ None → ⊥
 none_some e = let z : ◌≡◌ {A = ℕ} 0 1 = cc e in omega (arith, z)
 
-pub ok_err : {A E : Type 0} {a : A} {e : E} → ◌≡◌ {A = Result A E} (Ok a) (Err e) → ⊥
+ok_err : {A E : Type 0} {a : A} {e : E} → ◌≡◌ {A = Result A E} (Ok a) (Err e) → ⊥
 ok_err k = let z : ◌≡◌ {A = ℕ} 0 1 = cc k in omega (arith, z)
 
 -- the first fault, behind checks that find none, and before any others
@@ -55,6 +55,14 @@ unless_err (Some y) a x e = let same : y ≡ x = cc (sym e) in ap (λ (z : Fault
 abbrev pub answered_by : Result HookState Fault → Answer → Answer
 answered_by (Ok s) a = a
 answered_by (Err e) a = Refused e
+
+pub by_ok : (a : Answer) (j : Result HookState Fault) → Ok tt ≡ answered j → answered_by j a ≡ a
+by_ok a (Ok s) e = refl
+by_ok a (Err x) e = absurd (ok_err e)
+
+pub by_err : (a : Answer) (j : Result HookState Fault) (x : Fault) → Err x ≡ answered j → answered_by j a ≡ Refused x
+by_err a (Ok s) x e = absurd (ok_err (sym e))
+by_err a (Err y) x e = sym (ap (λ (f : Fault). Refused f) (cc e))
 
 -- a call whose last check and whose effect are an event of a key
 module _ (l : Ledger) (before after : Loans) (h : ℕ) (event : Event) (cs : List (Option Fault)) (a : Answer) where

@@ -4,13 +4,14 @@ use Rattle.faults.specs.declared.Fault.{Fault}
 use Rattle.states.specs.declared.state.State.{State}
 use Rattle.states.specs.States.{kept}
 use Rattle.conditions.specs.declared.truth.Truth.{Truth}
-use Rattle.loans.specs.Hooks.{hooks, spent_by}
+use Rattle.loans.specs.Hooks.{hooks}
 use Rattle.plain.specs.Record as plain
 use Rattle.plain.specs.Record.{World, Call, Answer, step, whole}
 use Rattle.ledger.specs.Answers.{done}
 use Rattle.ledger.specs.Ledgers.{world_with}
-use Rattle.loans.specs.declared.slip.Slip.{Slip}
-use Rattle.loans.specs.declared.slip.RefusedSlip.{RefusedSlip}
+use Rattle.controller.specs.declared.slip.Slip.{Slip}
+use Rattle.controller.specs.declared.slip.RefusedSlip.{RefusedSlip}
+use Rattle.controller.specs.Slips.{spent_by}
 use Rattle.controller.specs.declared.cabinet.Cabinet.{Cabinet}
 
 -- a cabinet's record, and where its keys are

@@ -1,3 +1,4 @@
+pub mod Slips
 pub mod Cabinets
 pub mod Runs
 pub mod Promise

@@ -1,7 +1,9 @@
 -- The calls and the answers of a run, in the words of the plain record.
-use Rattle.std.specs.Prelude.{◌-◌, ◌++◌, length, replicate, Ok, Err, Result}
+use Rattle.std.specs.Prelude.{ℕ, ◌-◌, List, ◌++◌, length, replicate, Ok, Err, Result}
 use Rattle.faults.specs.declared.Fault.{Fault}
 use Rattle.plain.specs.Record as plain
+use Rattle.controller.specs.declared.slip.Slip.{Slip}
+use Rattle.controller.specs.declared.slip.RefusedSlip.{RefusedSlip}
 use Rattle.controller.specs.declared.run.Call.{Call}
 use Rattle.controller.specs.declared.run.Call.TheVariants as calls
 use Rattle.controller.specs.declared.run.Answer.{Answer}
@@ -30,3 +32,13 @@ shown plain.Done = Ok answers.Done
 abbrev pub written : {A : Type 0} → (A → Answer) → Result A Fault → Result Answer Fault
 written kind (Ok a) = Ok (kind a)
 written kind (Err e) = Err e
+
+-- a draw's answer, written down: the slip, and the caller's list
+abbrev pub slip_written : List ℕ → Result Slip Fault → Result Answer Fault
+slip_written numbers (Ok slip) = Ok (answers.Slip slip.hook slip.person slip.length numbers)
+slip_written numbers (Err e) = Err e
+
+-- the answer to taking or leaving, written down
+abbrev pub spent_written : Result (Unit {0}) RefusedSlip → Result Answer Fault
+spent_written (Ok u) = Ok answers.Done
+spent_written (Err e) = Err e.fault

@@ -1,18 +1,35 @@
 //! The calls on a cabinet.
-ghost use Rattle.std.specs.Prelude.{◌≡◌};
+ghost use Rattle.std.specs.Prelude.{◌≡◌, ◌≤◌};
 ghost use Rattle.plain.specs.Record.{Fit as fitting, Issue as issuing, Amend as amending, Withdraw as withdrawing, Draw as drawing, Take as taking, Leave as leaving, Return as returning, new as unfitted};
 ghost use Rattle.ledger.specs.Answers.{told, done};
 ghost use Rattle.ledger.specs.Ledgers.{standing_of};
 ghost use Rattle.controller.specs.Cabinets.{world, reply, Follows, slip_of, listed, spent};
 
 use crate::cabinet::Cabinet;
+use crate::slip::{RefusedSlip, Slip};
 use conditions::language::Language;
 use faults::Fault;
 use grants::terms::Terms;
 use ledger::held::Ledger;
-use loans::slip::{RefusedSlip, Slip};
+use loans::state::Event;
 use loans::table::Loans;
+use search::named::Named;
 use states::report::Report;
+
+/// The slip of a draw that is accepted; the numbers of its chain go into the caller's list.
+fn hand_out(hook: u8, person: u8, named: &Named, chain: &mut [u32; 8]) -> Slip
+    requires { named.now.length ≤ 8 }
+    ensures is { result ≡ record { hook = hook; person = person; length = named.now.length } }
+    ensures list { chain.new ≡ named.now.numbers }
+{
+    let numbers = named.numbers;
+    *chain = numbers;
+    Slip {
+        hook,
+        person,
+        length: named.length as u8,
+    }
+}
 
 impl<L: Language> Cabinet<L> {
     /// A new cabinet: unfitted, without a grant, every key in.
@@ -74,10 +91,24 @@ impl<L: Language> Cabinet<L> {
         ensures after { Follows L.size L.says self.old (drawing caller hook report.now) self.new }
     {
         let named = self.ledger.chain_for(&self.language, caller, hook, report)?;
-        let slip = self.loans.draw(hook, caller, named.length as u8)?;
-        let numbers = named.numbers;
-        *chain = numbers;
-        Ok(slip)
+        self.loans.happen(hook, Event::Draw(caller))?;
+        Ok(hand_out(hook, caller, &named, chain))
+    }
+
+    /// The promised key goes out.
+    fn take_key(&mut self, hook: u8, person: u8) -> Result<(), Fault>
+        ensures is { result ≡ done (reply L.size L.says self.old (taking hook person)) }
+        ensures after { Follows L.size L.says self.old (taking hook person) self.new }
+    {
+        self.loans.happen(hook, Event::Take(person))
+    }
+
+    /// The promised key stays in.
+    fn leave_key(&mut self, hook: u8, person: u8) -> Result<(), Fault>
+        ensures is { result ≡ done (reply L.size L.says self.old (leaving hook person)) }
+        ensures after { Follows L.size L.says self.old (leaving hook person) self.new }
+    {
+        self.loans.happen(hook, Event::Leave(person))
     }
 
     /// Spends a slip: the key is out.
@@ -85,7 +116,8 @@ impl<L: Language> Cabinet<L> {
         ensures is { result ≡ spent slip (reply L.size L.says self.old (taking slip.hook slip.person)) }
         ensures after { Follows L.size L.says self.old (taking slip.hook slip.person) self.new }
     {
-        self.loans.take(slip)
+        let happened = self.take_key(slip.hook, slip.person);
+        slip.spend(happened)
     }
 
     /// Spends a slip: the key is in again.
@@ -93,7 +125,8 @@ impl<L: Language> Cabinet<L> {
         ensures is { result ≡ spent slip (reply L.size L.says self.old (leaving slip.hook slip.person)) }
         ensures after { Follows L.size L.says self.old (leaving slip.hook slip.person) self.new }
     {
-        self.loans.leave(slip)
+        let happened = self.leave_key(slip.hook, slip.person);
+        slip.spend(happened)
     }
 
     /// Brings the key of `hook`, which is out, in again.
@@ -102,7 +135,7 @@ impl<L: Language> Cabinet<L> {
         ensures after { Follows L.size L.says self.old (returning caller hook) self.new }
     {
         self.ledger.check_return(caller, hook)?;
-        self.loans.give_back(hook)
+        self.loans.happen(hook, Event::Return)
     }
 
     /// Whether the grant numbered `number` stands; refused where there is none.

@@ -4,3 +4,4 @@
 pub mod cabinet;
 mod calls;
 pub mod run;
+pub mod slip;

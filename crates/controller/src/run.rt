@@ -2,16 +2,15 @@
 ghost use Rattle.std.specs.Prelude.{◌≡◌, map, length, take};
 ghost use Rattle.controller.specs.Cabinets.{world, reply, Follows};
 ghost use Rattle.controller.specs.declared.run.Answer.TheVariants as answers;
-ghost use Rattle.controller.specs.Runs.{asked, shown, written};
-ghost use Rattle.plain.specs.Record.{Draw as drawing};
+ghost use Rattle.controller.specs.Runs.{asked, shown, written, slip_written, spent_written};
 ghost use Rattle.controller.specs.Promise.{WholePromise};
 ghost use Rattle.plain.specs.Laws.{RecordLaws};
 
 use crate::cabinet::Cabinet;
+use crate::slip::{RefusedSlip, Slip};
 use conditions::language::Language;
 use faults::Fault;
 use grants::terms::Terms;
-use loans::state::Event;
 use states::report::Report;
 
 /// One call with its arguments. Take and leave name the hook and the person of a slip, so that slips
@@ -90,23 +89,42 @@ fn done_told(told: Result<(), Fault>) -> Result<Answer, Fault>
     told.map(|()| Answer::Done)
 }
 
-impl<L: Language> Cabinet<L> {
-    /// A draw whose slip ends at once: a later call of the run names hook and person itself.
-    fn draw_on_record(&mut self, caller: u8, hook: u8, report: &Report) -> Result<Answer, Fault>
-        ensures is { result ≡ shown (reply L.size L.says self.old (drawing caller hook report.now)) }
-        ensures after { Follows L.size L.says self.old (drawing caller hook report.now) self.new }
-    {
-        let named = self.ledger.chain_for(&self.language, caller, hook, report)?;
-        self.loans.happen(hook, Event::Draw(caller))?;
-        let numbers = named.numbers;
-        Ok(Answer::Slip {
-            hook,
-            person: caller,
-            length: named.length as u8,
-            numbers,
-        })
-    }
+/// A draw's answer in numbers; its slip ends here, since a later call of the run makes its own.
+fn slip_told(drawn: Result<Slip, Fault>, numbers: [u32; 8]) -> Result<Answer, Fault>
+    ensures { result ≡ slip_written numbers drawn }
+{
+    let Slip {
+        hook,
+        person,
+        length,
+    } = drawn?;
+    Ok(Answer::Slip {
+        hook,
+        person,
+        length,
+        numbers,
+    })
+}
 
+/// The answer to taking or leaving; a slip that came back ends here.
+fn spent_told(spent: Result<(), RefusedSlip>) -> Result<Answer, Fault>
+    ensures { result ≡ spent_written spent }
+{
+    match spent {
+        Ok(()) => Ok(Answer::Done),
+        Err(refused) => {
+            let RefusedSlip { fault, slip } = refused;
+            let Slip {
+                hook: _,
+                person: _,
+                length: _,
+            } = slip;
+            Err(fault)
+        }
+    }
+}
+
+impl<L: Language> Cabinet<L> {
     /// One call of a run.
     fn apply(&mut self, call: &Call<'_>) -> Result<Answer, Fault>
         ensures is { result ≡ shown (reply L.size L.says self.old (asked call.now)) }
@@ -130,11 +148,21 @@ impl<L: Language> Cabinet<L> {
                 caller,
                 hook,
                 report,
-            } => self.draw_on_record(caller, hook, &report),
-            Call::Take { hook, person } => done_told(self.loans.happen(hook, Event::Take(person))),
-            Call::Leave { hook, person } => done_told(
-                self.loans.happen(hook, Event::Leave(person)),
-            ),
+            } => {
+                let mut numbers = [0; 8];
+                let slip = self.draw(caller, hook, &report, &mut numbers);
+                slip_told(slip, numbers)
+            }
+            Call::Take { hook, person } => spent_told(self.take(Slip {
+                hook,
+                person,
+                length: 0,
+            })),
+            Call::Leave { hook, person } => spent_told(self.leave(Slip {
+                hook,
+                person,
+                length: 0,
+            })),
             Call::Return { caller, hook } => done_told(self.give_back(caller, hook)),
         }
     }

@@ -18,8 +18,8 @@ use Rattle.loans.specs.Hooks.{state_of}
 use Rattle.plain.specs.Record as plain
 use Rattle.plain.specs.Record.{World, Answer, Refused, Done, Draw, Take, Leave, first_fault, found, check, checks, done, hook_at, owner, judged_by, person, real_hook, with_hook, whole}
 use Rattle.controller.specs.declared.cabinet.Cabinet.{Cabinet}
-use Rattle.loans.specs.declared.slip.Slip.{Slip}
-use Rattle.loans.specs.declared.slip.RefusedSlip.{RefusedSlip}
+use Rattle.controller.specs.declared.slip.Slip.{Slip}
+use Rattle.controller.specs.declared.slip.RefusedSlip.{RefusedSlip}
 use Rattle.controller.specs.Cabinets.{world, reply, Follows, slip_of, spent}
 use Rattle.controller_cases.specs.Promises.{Home}
 

@@ -3,7 +3,7 @@ use Rattle.std.specs.Prelude.{◌≡◌}
 use Rattle.loans.specs.declared.state.HookState.TheVariants.{Promised}
 use Rattle.plain.specs.Record.{hook_at}
 use Rattle.controller.specs.declared.cabinet.Cabinet.{Cabinet}
-use Rattle.loans.specs.declared.slip.Slip.{Slip}
+use Rattle.controller.specs.declared.slip.Slip.{Slip}
 use Rattle.controller.specs.Cabinets.{world}
 
 -- the slip's hook is promised to the slip's person

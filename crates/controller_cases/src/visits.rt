@@ -4,8 +4,8 @@ ghost use Rattle.controller_cases.specs.Promises.{Home};
 
 use conditions::language::Language;
 use controller::cabinet::Cabinet;
+use controller::slip::{RefusedSlip, Slip};
 use faults::Fault;
-use loans::slip::{RefusedSlip, Slip};
 use states::report::Report;
 
 /// A draw, whose slip can be spent at this cabinet.

@@ -7,8 +7,8 @@ use Rattle.states.specs.States.{kept}
 use Rattle.grants.specs.declared.terms.Terms.{Terms}
 use Rattle.conditions.specs.declared.truth.Truth.{Truth}
 use Rattle.loans.specs.declared.state.HookState.TheVariants as key
-use Rattle.loans.specs.declared.slip.Slip as slips
-use Rattle.loans.specs.declared.slip.RefusedSlip.{RefusedSlip}
+use Rattle.controller.specs.declared.slip.Slip as slips
+use Rattle.controller.specs.declared.slip.RefusedSlip.{RefusedSlip}
 use Rattle.command_words.specs.declared.Outcome.{Outcome}
 use Rattle.command_words.specs.declared.Command.{Command}
 use Rattle.command_words.specs.declared.Command.TheVariants as commands

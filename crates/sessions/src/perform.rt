@@ -10,8 +10,8 @@ ghost use Rattle.sessions.specs.Performing.{Performs};
 use command_words::{Command, Outcome};
 use conditions::language::Language;
 use controller::cabinet::Cabinet;
+use controller::slip::Slip;
 use faults::Fault;
-use loans::slip::Slip;
 use states::report::Report;
 
 /// Spends the slip of a key that is promised so: the key is taken, or left.

@@ -1,10 +1,8 @@
-use Rattle.std.proofs.Common.{[], refl, ap, ◌∙◌}
-use Rattle.loans.specs.declared.state.Event.TheVariants as event
+use Rattle.std.proofs.Common.{ap, ◌∙◌}
 use Rattle.controller.specs.declared.run.Answer.TheVariants as answers
 use Rattle.controller.specs.Cabinets.{world}
-use Rattle.controller.specs.Runs.{written}
-use Rattle.controller.proofs.Keys.{done_so}
-use Rattle.controller.proofs.Shown.{number_told, orphans_told, done_told, made_so}
+use Rattle.controller.specs.Runs.{written, slip_written, spent_written}
+use Rattle.controller.proofs.Shown.{number_told, orphans_told, done_told, spent_told, slip_told, made_so}
 use Rattle.controller.proofs.cabinet.Cabinet.apply.Goals as goal
 
 pub returns-in-Fit : goal.returns-in-Fit
@@ -34,23 +32,19 @@ returns-in-Withdraw g c =
 pub returns-in-Draw : goal.returns-in-Draw
 returns-in-Draw g c =
     let s = c.args.self.now in
-    let so = made_so g.L.Language.size g.L.Language.says s _ _ _ _ c.in-Draw.is c.draw_on_record.ensures.is c.draw_on_record.ensures.after in
+    let so = made_so g.L.Language.size g.L.Language.says s _ _ _ _ c.in-Draw.is (c.slip_told.ensures ∙ (λ i. slip_written (c.draw-slip.ensures.list i) (c.draw-slip.ensures.is i)) ∙ slip_told (world s) _ _ _ _ _ _) c.draw-slip.ensures.after in
     record { is = so.0; after = so.1 }
 
 pub returns-in-Take : goal.returns-in-Take
 returns-in-Take g c =
     let s = c.args.self.now in
-    let i = c.in-Take in
-    let did = done_so s.ledger s.loans c.happen.new.self i.hook (event.Take i.person) [] refl c.happen.ensures.leaves in
-    let so = made_so g.L.Language.size g.L.Language.says s _ _ _ _ i.is (c.done_told-in-Take.ensures ∙ ap (written (λ _. answers.Done)) (c.happen.ensures.is ∙ did.0) ∙ done_told (world s) _ _) (record { language = refl; held = did.1 }) in
+    let so = made_so g.L.Language.size g.L.Language.says s _ _ _ _ c.in-Take.is (c.spent_told.ensures ∙ ap spent_written c.take.ensures.is ∙ spent_told (world s) _ _ _) c.take.ensures.after in
     record { is = so.0; after = so.1 }
 
 pub returns-in-Leave : goal.returns-in-Leave
 returns-in-Leave g c =
     let s = c.args.self.now in
-    let i = c.in-Leave in
-    let did = done_so s.ledger s.loans c.happen-in-Leave.new.self i.hook (event.Leave i.person) [] refl c.happen-in-Leave.ensures.leaves in
-    let so = made_so g.L.Language.size g.L.Language.says s _ _ _ _ i.is (c.done_told-in-Leave.ensures ∙ ap (written (λ _. answers.Done)) (c.happen-in-Leave.ensures.is ∙ did.0) ∙ done_told (world s) _ _) (record { language = refl; held = did.1 }) in
+    let so = made_so g.L.Language.size g.L.Language.says s _ _ _ _ c.in-Leave.is (c.spent_told-in-Leave.ensures ∙ ap spent_written c.leave.ensures.is ∙ spent_told (world s) _ _ _) c.leave.ensures.after in
     record { is = so.0; after = so.1 }
 
 pub returns-in-Return : goal.returns-in-Return

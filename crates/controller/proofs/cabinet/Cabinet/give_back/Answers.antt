@@ -16,8 +16,8 @@ returns g c =
     let s = c.args.self.now in
     let h = c.args.hook in
     let cs = person c.args.caller 2 ∷ real_hook h (owner_in s.ledger h) ∷ [] in
-    let so = done_so s.ledger s.loans c.give_back.new.self h Return cs (pass cs _ c.in_ok-check_return.ensures) c.give_back.ensures.leaves in
-    record { is = c.give_back.ensures.is ∙ so.0; after = record { language = refl; held = so.1 } }
+    let so = done_so s.ledger s.loans c.happen.new.self h Return cs (pass cs _ c.in_ok-check_return.ensures) c.happen.ensures.leaves in
+    record { is = c.happen.ensures.is ∙ so.0; after = record { language = refl; held = so.1 } }
 
 pub returns-in_err-check_return : goal.returns-in_err-check_return
 returns-in_err-check_return g c =
