@@ -4,10 +4,11 @@ ghost use Rattle.paths.specs.Steps.{Never};
 ghost use Rattle.paths.specs.declared.plan.Plan.{Plan};
 ghost use Rattle.paths.specs.Memories.{Failed};
 
-/// A search: from whom, and over which set of places.
+/// A search: from whom, and over which set of places. The person is as wide as the set, so that no byte between them lies
+/// idle: a blank memory is then filled with zeros at once, and not written field by field.
 #[derive(Clone, Copy)]
 pub(crate) struct Search {
-    pub person: u8,
+    pub person: u128,
     pub allowed: u128,
 }
 

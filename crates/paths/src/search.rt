@@ -98,7 +98,7 @@ impl Plan {
         let start = without(allowed, self.links.to(owner));
         let net = self.net(target, start);
         let search = Search {
-            person: owner,
+            person: owner as u128,
             allowed: start,
         };
         shortest(&net, search, self.links.by(owner), limit(most))

@@ -29,7 +29,7 @@ pub(crate) fn walk(
     ensures knows { Knows net.now.plan.now net.now.target memory.new }
 {
     if path.len() == 0 {
-        return search.person == net.target;
+        return search.person == net.target as u128;
     }
     if meet(search.allowed, net.last) == 0 {
         return false;
@@ -42,7 +42,7 @@ pub(crate) fn walk(
         let step = net.plan.steps[i];
         let narrow = meet(search.allowed, step.keep);
         let rest = Search {
-            person: net.plan.links.links[i].taker,
+            person: net.plan.links.links[i].taker as u128,
             allowed: narrow,
         };
         if walk(net, rest, step.onward, &mut memory[1..], &mut path[1..]) {
