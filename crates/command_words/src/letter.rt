@@ -44,15 +44,14 @@ impl Letter for Verb {
     }
 
     fn of_letter(letter: u8) -> Option<Verb> {
-        [
-            Verb::Issue,
-            Verb::Amend,
-            Verb::Withdraw,
-            Verb::Draw,
-            Verb::Return,
-        ]
-        .into_iter()
-        .find(|verb| verb.letter() == letter)
+        match letter {
+            b'I' => Some(Verb::Issue),
+            b'A' => Some(Verb::Amend),
+            b'W' => Some(Verb::Withdraw),
+            b'D' => Some(Verb::Draw),
+            b'R' => Some(Verb::Return),
+            _ => None,
+        }
     }
 }
 
@@ -80,9 +79,11 @@ impl Letter for Mode {
     }
 
     fn of_letter(letter: u8) -> Option<Mode> {
-        [Mode::Expiring, Mode::Resting]
-            .into_iter()
-            .find(|mode| mode.letter() == letter)
+        match letter {
+            b'E' => Some(Mode::Expiring),
+            b'R' => Some(Mode::Resting),
+            _ => None,
+        }
     }
 }
 
@@ -101,8 +102,10 @@ impl Letter for Outcome {
     }
 
     fn of_letter(letter: u8) -> Option<Outcome> {
-        [Outcome::Taken, Outcome::Left]
-            .into_iter()
-            .find(|outcome| outcome.letter() == letter)
+        match letter {
+            b'T' => Some(Outcome::Taken),
+            b'L' => Some(Outcome::Left),
+            _ => None,
+        }
     }
 }

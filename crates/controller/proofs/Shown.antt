@@ -12,7 +12,7 @@ use Rattle.controller.specs.declared.run.Call.{Call as Made}
 use Rattle.controller.specs.declared.run.Answer.{Answer as Written}
 use Rattle.controller.specs.declared.run.Answer.TheVariants as answers
 use Rattle.controller.specs.Cabinets.{reply, Follows, slip_of, listed, spent}
-use Rattle.controller.specs.Runs.{asked, shown, written, slip_written, spent_written}
+use Rattle.controller.specs.Runs.{asked, shown, written, slip_shown, spent_shown}
 
 module _ (w v : World) where
   pub number_told : (o : Option Fault) (n : ℕ) → let a = (judged_by w o (v, Number n)).1 in written answers.Number (told a) ≡ shown a
@@ -27,11 +27,11 @@ module _ (w v : World) where
   done_told None = refl
   done_told (Some e) = refl
 
-  pub spent_told : (slip : Slip) (o : Option Fault) → let a = (judged_by w o (v, Done)).1 in spent_written (spent slip a) ≡ shown a
+  pub spent_told : (slip : Slip) (o : Option Fault) → let a = (judged_by w o (v, Done)).1 in spent_shown (spent slip a) ≡ shown a
   spent_told slip None = refl
   spent_told slip (Some e) = refl
 
-  pub slip_told : (o : Option Fault) (h p : ℕ) (ns old : List ℕ) → let a = (judged_by w o (v, plain.Slip h p ns)).1 in slip_written (listed old a) (slip_of a) ≡ shown a
+  pub slip_told : (o : Option Fault) (h p : ℕ) (ns old : List ℕ) → let a = (judged_by w o (v, plain.Slip h p ns)).1 in slip_shown (slip_of a) (listed old a) ≡ shown a
   slip_told None h p ns old = refl
   slip_told (Some e) h p ns old = refl
 

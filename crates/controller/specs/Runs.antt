@@ -34,11 +34,11 @@ written kind (Ok a) = Ok (kind a)
 written kind (Err e) = Err e
 
 -- a draw's answer, written down: the slip, and the caller's list
-abbrev pub slip_written : List ℕ → Result Slip Fault → Result Answer Fault
-slip_written numbers (Ok slip) = Ok (answers.Slip slip.hook slip.person slip.length numbers)
-slip_written numbers (Err e) = Err e
+abbrev pub slip_shown : Result Slip Fault → List ℕ → Result Answer Fault
+slip_shown (Ok slip) numbers = Ok (answers.Slip slip.hook slip.person slip.length numbers)
+slip_shown (Err e) numbers = Err e
 
 -- the answer to taking or leaving, written down
-abbrev pub spent_written : Result (Unit {0}) RefusedSlip → Result Answer Fault
-spent_written (Ok u) = Ok answers.Done
-spent_written (Err e) = Err e.fault
+abbrev pub spent_shown : Result (Unit {0}) RefusedSlip → Result Answer Fault
+spent_shown (Ok u) = Ok answers.Done
+spent_shown (Err e) = Err e.fault

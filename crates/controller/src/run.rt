@@ -2,7 +2,7 @@
 ghost use Rattle.std.specs.Prelude.{◌≡◌, map, length, take};
 ghost use Rattle.controller.specs.Cabinets.{world, reply, Follows};
 ghost use Rattle.controller.specs.declared.run.Answer.TheVariants as answers;
-ghost use Rattle.controller.specs.Runs.{asked, shown, written, slip_written, spent_written};
+ghost use Rattle.controller.specs.Runs.{asked, shown, written, slip_shown, spent_shown};
 ghost use Rattle.controller.specs.Promise.{WholePromise};
 ghost use Rattle.plain.specs.Laws.{RecordLaws};
 
@@ -91,7 +91,7 @@ fn done_told(told: Result<(), Fault>) -> Result<Answer, Fault>
 
 /// A draw's answer in numbers; its slip ends here, since a later call of the run makes its own.
 fn slip_told(drawn: Result<Slip, Fault>, numbers: [u32; 8]) -> Result<Answer, Fault>
-    ensures { result ≡ slip_written numbers drawn }
+    ensures { result ≡ slip_shown drawn numbers }
 {
     let Slip {
         hook,
@@ -108,7 +108,7 @@ fn slip_told(drawn: Result<Slip, Fault>, numbers: [u32; 8]) -> Result<Answer, Fa
 
 /// The answer to taking or leaving; a slip that came back ends here.
 fn spent_told(spent: Result<(), RefusedSlip>) -> Result<Answer, Fault>
-    ensures { result ≡ spent_written spent }
+    ensures { result ≡ spent_shown spent }
 {
     match spent {
         Ok(()) => Ok(Answer::Done),

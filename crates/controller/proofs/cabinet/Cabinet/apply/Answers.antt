@@ -1,7 +1,7 @@
 use Rattle.std.proofs.Common.{ap, ◌∙◌}
 use Rattle.controller.specs.declared.run.Answer.TheVariants as answers
 use Rattle.controller.specs.Cabinets.{world}
-use Rattle.controller.specs.Runs.{written, slip_written, spent_written}
+use Rattle.controller.specs.Runs.{written, slip_shown, spent_shown}
 use Rattle.controller.proofs.Shown.{number_told, orphans_told, done_told, spent_told, slip_told, made_so}
 use Rattle.controller.proofs.cabinet.Cabinet.apply.Goals as goal
 
@@ -32,19 +32,19 @@ returns-in-Withdraw g c =
 pub returns-in-Draw : goal.returns-in-Draw
 returns-in-Draw g c =
     let s = c.args.self.now in
-    let so = made_so g.L.Language.size g.L.Language.says s _ _ _ _ c.in-Draw.is (c.slip_told.ensures ∙ (λ i. slip_written (c.draw-slip.ensures.list i) (c.draw-slip.ensures.is i)) ∙ slip_told (world s) _ _ _ _ _ _) c.draw-slip.ensures.after in
+    let so = made_so g.L.Language.size g.L.Language.says s _ _ _ _ c.in-Draw.is (c.slip_told.ensures ∙ (λ i. slip_shown (c.draw-slip.ensures.is i) (c.draw-slip.ensures.list i)) ∙ slip_told (world s) _ _ _ _ _ _) c.draw-slip.ensures.after in
     record { is = so.0; after = so.1 }
 
 pub returns-in-Take : goal.returns-in-Take
 returns-in-Take g c =
     let s = c.args.self.now in
-    let so = made_so g.L.Language.size g.L.Language.says s _ _ _ _ c.in-Take.is (c.spent_told.ensures ∙ ap spent_written c.take.ensures.is ∙ spent_told (world s) _ _ _) c.take.ensures.after in
+    let so = made_so g.L.Language.size g.L.Language.says s _ _ _ _ c.in-Take.is (c.spent_told.ensures ∙ ap spent_shown c.take.ensures.is ∙ spent_told (world s) _ _ _) c.take.ensures.after in
     record { is = so.0; after = so.1 }
 
 pub returns-in-Leave : goal.returns-in-Leave
 returns-in-Leave g c =
     let s = c.args.self.now in
-    let so = made_so g.L.Language.size g.L.Language.says s _ _ _ _ c.in-Leave.is (c.spent_told-in-Leave.ensures ∙ ap spent_written c.leave.ensures.is ∙ spent_told (world s) _ _ _) c.leave.ensures.after in
+    let so = made_so g.L.Language.size g.L.Language.says s _ _ _ _ c.in-Leave.is (c.spent_told-in-Leave.ensures ∙ ap spent_shown c.leave.ensures.is ∙ spent_told (world s) _ _ _) c.leave.ensures.after in
     record { is = so.0; after = so.1 }
 
 pub returns-in-Return : goal.returns-in-Return
