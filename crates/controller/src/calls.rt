@@ -95,6 +95,7 @@ impl<L: Language> Cabinet<L> {
         Ok(hand_out(hook, caller, &named, chain))
     }
 
+    // stays: taking and leaving are two calls, as in the loans, one line each over what they share
     /// The promised key goes out.
     fn take_key(&mut self, hook: u8, person: u8) -> Result<(), Fault>
         ensures is { result ≡ done (reply L.size L.says self.old (taking hook person)) }

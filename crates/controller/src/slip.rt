@@ -6,8 +6,8 @@ use faults::Fault;
 
 /// The promise of a hook's key to a person, who reached it by a chain of `length` grants. Only a
 /// draw hands one out. It cannot be copied or let go: it is spent by taking or leaving the key.
-// stays: a slip of its own beside that of the loans, since a type that two crates share needs a maker and a spender that
-// anybody may call, and a slip has neither
+// stays: a slip of its own, with what refuses and spends it, beside that of the loans, since a type that two crates share
+// needs a maker and a spender that anybody may call, and a cabinet's slip has neither
 pub struct Slip {
     pub(crate) hook: u8,
     pub(crate) person: u8,
